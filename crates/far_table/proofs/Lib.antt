@@ -44,3 +44,5 @@ pub mod CopiersAct
 pub mod WholeLogs
 pub mod WholeWords
 pub mod RowEvents
+pub mod RowParts
+pub mod RowSteps

@@ -189,6 +189,23 @@ impl<D: Device> BookSeat<D> {
     }
 }
 
+// The table of a core's words, and the book's seat, from which no other is split yet.
+fn table_of_core<D: Device>(
+    alloc: Global,
+    plan: &Plan<D>,
+) -> Result<(Arc<FarTable<D>, Global>, Seat<u64, View>), AllocError>
+    requires honest { (p : ℕ) → (core_state plan.now.core).cell p ≢ 0 → D.honest plan.now.device.value ≡ (core_state plan.now.core).honest }
+    ensures dealer { IfOk result (λ r. IsDealer r.1 (arc_value r.0).shared.table_id (core_state plan.now.core).logs) }
+    ensures first { IfOk result (λ r. r.1.me.0 ≡ Book (unseated (core_state plan.now.core) (D.honest plan.now.device.value) 0 MOST_COPIERS)) }
+{
+    plan.core.keeps_law();
+    plan.core.nothing_is_past();
+    let words = words_of(alloc, &plan.core)?;
+    let (table, seat) = Table::of_words(alloc, words.as_slice(), plan)?;
+    let table = Arc::new(alloc, table)?;
+    Ok((table, seat))
+}
+
 // The table and its seats.
 fn seats_of<D: Device>(
     alloc: Global,
@@ -202,9 +219,7 @@ fn seats_of<D: Device>(
 {
     plan.core.keeps_law();
     plan.core.nothing_is_past();
-    let words = words_of(alloc, &plan.core)?;
-    let (table, mut seat) = Table::of_words(alloc, words.as_slice(), plan)?;
-    let table = Arc::new(alloc, table)?;
+    let (table, mut seat) = table_of_core(alloc, plan)?;
     let copiers = deal_copiers(alloc, &table, &mut seat, plan)?;
     let owners = deal_all(alloc, &table, &mut seat, plan)?;
     Ok((BookSeat::new(table, seat, &plan.core), owners, copiers))

@@ -1,56 +1,82 @@
-use Rattle.std.proofs.Common.{◌≡◌, ◌∙◌, ◌+◌, ◌-◌, ◌*◌, ◌<◌, ℕ, true, length, drop, get_or, refl, sym, ap, subst, arith, List}
-use Rattle.std.proofs.lemmas.List.{length-take-le, length-drop}
+use Rattle.std.proofs.Common.{◌∙◌, ◌+◌, ◌*◌, ◌≤◌, length, refl, arith}
 use borrow.Rule.Slice.PartMut.{put_mid}
-use Rattle.atomic_table.specs.Seated.{TableId}
-use Rattle.far_word.specs.Bytes.{byte_at, packed_word}
-use Rattle.far_table.specs.Layout.{table_words}
-use Rattle.far_table.specs.Ranges.{HasBytes}
-use Rattle.far_table.specs.RowTells.{LoadedEach}
-use Rattle.far_table.specs.Seats.{HasPlaces}
 use Rattle.far_table.specs.Tells.{owner_of}
-use Rattle.far_table.specs.View.{View}
-use Rattle.far_table.specs.Views.{object_at, word_in_view}
-use Rattle.far_table.proofs.RowEvents.{loaded_part}
-use Rattle.far_table.proofs.WholeWords.{part_read, put_long}
+use Rattle.far_table.proofs.RowParts.{LoadsRow, all_of, both_bytes, both_loaded, first_fits, head_inside, head_long, later_start, loads_on, mid_fits, mid_inside, mid_left, none_below, start_fits}
 use Rattle.far_table.proofs.seat_rows.load_thirty_two.Goals as goal
 
-pub load_some-requires-2-clause-places : goal.load_some-requires-2-clause-places
-load_some-requires-2-clause-places g c = subst (λ (v : View). HasPlaces (owner_of v) c.args.places.now.items) (sym c.load_some.ensures.view) c.requires.places
+pub slice_bounds-half-count : goal.slice_bounds-half-count
+slice_bounds-half-count g c = none_below 128
 
-pub load_some-requires-2-clause-table : goal.load_some-requires-2-clause-table
-load_some-requires-2-clause-table g c = let e = c.load_some.ensures in
-    (e.table ∙ c.requires.table.0, ap (λ (z : TableId). z.words) e.table ∙ (c.requires.table.1 ∙ ap (λ (v : View). table_words (owner_of v).logs) (sym e.view)))
+pub slice_bounds-half-start : goal.slice_bounds-half-start
+slice_bounds-half-start g c = none_below 128
+
+pub slice_bounds-half-end : goal.slice_bounds-half-end
+slice_bounds-half-end g c = let fits : 128 ≤ length c.args.out.now = omega (arith, c.requires.count) in fits
+
+pub load_some-requires : goal.load_some-requires
+load_some-requires g c =
+    let fits : 128 ≤ length c.args.out.now = omega (arith, c.requires.count) in record {
+      table = c.requires.table;
+      owner = c.requires.owner;
+      places = c.requires.places;
+      start = c.requires.start;
+      held = c.requires.held;
+      short = c.requires.short;
+      inside = head_inside c.args.first 128 _ c.args.out.now fits c.requires.inside;
+      count = head_long 128 c.args.out.now fits;
+    }
+
+pub slice_bounds-left-count : goal.slice_bounds-left-count
+slice_bounds-left-count g c = mid_fits 128 c.args.out.now c.load_some.new.out (omega (arith, c.requires.count)) c.load_some.auto.out
+
+pub slice_bounds-left-start : goal.slice_bounds-left-start
+slice_bounds-left-start g c = mid_fits 128 c.args.out.now c.load_some.new.out (omega (arith, c.requires.count)) c.load_some.auto.out
+
+pub slice_bounds-left-end : goal.slice_bounds-left-end
+slice_bounds-left-end g c = all_of (length (put_mid 0 128 c.args.out.now c.load_some.new.out))
+
+pub overflow_add-start : goal.overflow_add-start
+overflow_add-start g c = start_fits c.args.places.now.items (owner_of c.args.seat.now.me.0) c.args.p c.args.start c.args.first (length c.args.out.now) c.requires.places c.requires.held c.requires.start c.requires.inside 16 (omega (arith, c.requires.count))
+
+pub overflow_add-first : goal.overflow_add-first
+overflow_add-first g c = first_fits c.args.places.now.items (owner_of c.args.seat.now.me.0) c.args.p c.args.start c.args.first (length c.args.out.now) c.requires.places c.requires.held c.requires.start c.requires.inside 16 (omega (arith, c.requires.count))
+
+pub load_some-requires-2 : goal.load_some-requires-2
+load_some-requires-2 g c =
+    let fits : 128 ≤ length c.args.out.now = omega (arith, c.requires.count) in
+    let r : LoadsRow c.args.seat.now.table_id c.args.shared.now.table_id c.args.seat.now.me.0 c.args.places.now.items c.args.p c.args.first (length c.args.out.now) = record {
+      table = c.requires.table;
+      owner = c.requires.owner;
+      places = c.requires.places;
+      held = c.requires.held;
+      short = c.requires.short;
+      inside = c.requires.inside;
+    } in
+    let s = loads_on _ _ _ _ _ _ _ _ (c.args.first + 16) _ _ r c.load_some.ensures.table c.load_some.ensures.view
+    (mid_inside 128 c.args.out.now c.load_some.new.out fits c.load_some.auto.out c.args.first (c.args.first + 16) 16 refl refl) in
+    let left = mid_left 128 c.args.out.now c.load_some.new.out fits c.load_some.auto.out in record {
+      table = s.table;
+      owner = s.owner;
+      places = s.places;
+      start = later_start c.args.start _ c.args.first 16 c.requires.start;
+      held = s.held;
+      short = s.short;
+      inside = s.inside;
+      count = left ∙ omega (arith, c.requires.count);
+    }
+
+pub returns-clause-table : goal.returns-clause-table
+returns-clause-table g c = c.load_some-2.ensures.table ∙ c.load_some.ensures.table
+
+pub returns-clause-view : goal.returns-clause-view
+returns-clause-view g c = c.load_some-2.ensures.view ∙ c.load_some.ensures.view
 
 pub returns-clause-bytes : goal.returns-clause-bytes
-returns-clause-bytes g c h k lt =
-    let f : ℕ → ℕ = word_in_view (object_at (owner_of c.args.seat.now.me.0) c.args.p) in
-    let out = c.args.out.now in
-    let many = c.requires.count in
-    let part : length c.load_some.new.out ≡ 128 = c.load_some.auto.out ∙ length-take-le 128 out (omega arith) in
-    let mid : List ℕ = put_mid 0 128 out c.load_some.new.out in
-    let long : length mid ≡ length out = put_long 0 128 out c.load_some.new.out part (omega arith) in
-    let n : ℕ = length mid - 128 in
-    let rest : length c.load_some-2.new.out ≡ n = c.load_some-2.auto.out ∙ length-take-le n (drop 128 mid) (omega (arith, length-drop 128 mid)) in
-    let front : (j : ℕ) → j < 0 + 128 → get_or mid j 0 ≡ byte_at f (8 * c.args.first + j) =
-    part_read f (8 * c.args.first) (8 * c.args.first) 0 128 out c.load_some.new.out (omega arith) (omega arith) part (λ j below. absurd (omega arith)) (c.load_some.ensures.bytes h) in
-    let all = put_long 128 n mid c.load_some-2.new.out rest (omega arith) in
-    part_read f (8 * c.args.first) (8 * (c.args.first + 16)) 128 n mid c.load_some-2.new.out (omega arith) (omega arith) rest front
-    (subst (λ (v : View). (owner_of v).honest ≡ true → HasBytes (word_in_view (object_at (owner_of v) c.args.p)) (8 * (c.args.first + 16)) c.load_some-2.new.out) c.load_some.ensures.view c.load_some-2.ensures.bytes h)
-    k (omega (arith, all))
+returns-clause-bytes g c =
+    both_bytes 128 c.args.out.now c.load_some.new.out (omega (arith, c.requires.count)) c.load_some.auto.out c.load_some-2.new.out c.load_some-2.auto.out _ _ c.load_some.ensures.view c.args.p (8 * c.args.first)
+    (8 * (c.args.first + 16)) (omega arith) c.load_some.ensures.bytes c.load_some-2.ensures.bytes
 
 pub returns-clause-events : goal.returns-clause-events
 returns-clause-events g c =
-    let o = owner_of c.args.seat.now.me.0 in
-    let out = c.args.out.now in
-    let many = c.requires.count in
-    let part : length c.load_some.new.out ≡ 128 = c.load_some.auto.out ∙ length-take-le 128 out (omega arith) in
-    let mid : List ℕ = put_mid 0 128 out c.load_some.new.out in
-    let long : length mid ≡ length out = put_long 0 128 out c.load_some.new.out part (omega arith) in
-    let n : ℕ = length mid - 128 in
-    let rest : length c.load_some-2.new.out ≡ n = c.load_some-2.auto.out ∙ length-take-le n (drop 128 mid) (omega (arith, length-drop 128 mid)) in
-    let words : ℕ = 16 in
-    let front : LoadedEach c.args.p c.args.first (packed_word mid) 16 o = (λ j few. loaded_part c.args.p c.args.first c.args.first 0 16 0 128 out c.load_some.new.out o (omega arith) refl refl (omega arith) part
-    (λ i none. absurd (omega arith)) c.load_some.ensures.events j (omega arith)) in
-    λ i lt. loaded_part c.args.p c.args.first (c.args.first + 16) 16 words 128 n mid c.load_some-2.new.out o refl refl (omega arith) (omega arith) rest front
-    (subst (λ (v : View). LoadedEach c.args.p (c.args.first + 16) (packed_word c.load_some-2.new.out) words (owner_of v)) c.load_some.ensures.view c.load_some-2.ensures.events)
-    i (omega arith)
+    both_loaded 128 c.args.out.now c.load_some.new.out (omega (arith, c.requires.count)) c.load_some.auto.out c.load_some-2.new.out c.load_some-2.auto.out _ _ c.load_some.ensures.view c.args.p c.args.first
+    (c.args.first + 16) 16 16 32 refl refl refl (omega (arith, c.requires.count)) c.load_some.ensures.events c.load_some-2.ensures.events

@@ -1,24 +1,81 @@
-use Rattle.std.proofs.Common.{◌≡◌, ◌+◌, ◌-◌, ◌*◌, ◌/◌, ◌≤◌, ℕ, length, take, refl, sym, ap, ◌∙◌, subst, arith}
+use Rattle.std.proofs.Common.{◌≡◌, ◌+◌, ◌-◌, ◌*◌, ◌/◌, ◌≤◌, ℕ, length, take, refl, ap, ◌∙◌, subst, arith}
 use Rattle.std.proofs.lemmas.List.{get_or-take, length-take-le, take_all}
-use Rattle.atomic_table.specs.Seated.{TableId}
 use Rattle.far_word.specs.Bytes.{packed_word}
-use Rattle.far_table.specs.Layout.{table_words}
-use Rattle.far_table.specs.View.{OwnerView}
 use Rattle.far_table.specs.Ranges.{Wrote}
 use Rattle.far_table.specs.RowTells.{StoredEach}
 use Rattle.far_table.specs.Tells.{owner_of}
-use Rattle.far_table.proofs.RowEvents.{part_words, stored_part}
-use Rattle.far_table.proofs.WholeWords.{part_wrote, places_within, places_wrote}
+use Rattle.far_table.proofs.RowEvents.{part_words, stored_none, stored_part}
+use Rattle.far_table.proofs.WholeWords.{part_wrote}
+use Rattle.far_table.proofs.RowParts.{StoresRow, block_begins, block_byte, block_end, block_ends, block_first, block_inside, block_long, block_start, block_stays, block_words, fewer, stores_on, wrote_none}
 use Rattle.far_table.proofs.seat_rows.store_blocks.Goals as goal
 
-pub store_thirty_two-requires-clause-places : goal.store_thirty_two-requires-clause-places
-store_thirty_two-requires-clause-places g c =
-    places_wrote c.args.p _ _ c.args.places.now.items (owner_of c.args.seat.now.me.0) (owner_of c.loop-block.seat.me.0) c.loop-block.invariant.wrote c.requires.places
+pub loop-block-init : goal.loop-block-init
+loop-block-init g c = record {
+  table = refl;
+  owner = c.requires.owner;
+  wrote = wrote_none c.args.p (8 * c.args.first) (owner_of c.args.seat.now.me.0);
+  events = stored_none c.args.p c.args.first (packed_word c.args.bytes.now) (owner_of c.args.seat.now.me.0);
+}
 
-pub store_thirty_two-requires-clause-table : goal.store_thirty_two-requires-clause-table
-store_thirty_two-requires-clause-table g c =
-    let i = c.loop-block.invariant in
-    (i.table ∙ c.requires.table.0, ap (λ (z : TableId). z.words) i.table ∙ (c.requires.table.1 ∙ ap (λ (z : OwnerView). table_words z.logs) (sym i.wrote.rest)))
+pub overflow_mul-start : goal.overflow_mul-start
+overflow_mul-start g c = block_words c.args.places.now.items (owner_of c.args.seat.now.me.0) c.args.p c.args.begin c.args.first (length c.args.bytes.now) c.requires.places c.requires.held c.requires.begin c.requires.inside c.loop-block.block c.loop-block-test.true
+
+pub overflow_add-start : goal.overflow_add-start
+overflow_add-start g c = block_first c.args.places.now.items (owner_of c.args.seat.now.me.0) c.args.p c.args.begin c.args.first (length c.args.bytes.now) c.requires.places c.requires.held c.requires.begin c.requires.inside c.loop-block.block c.loop-block-test.true
+
+pub overflow_add-start-in-loop-block : goal.overflow_add-start-in-loop-block
+overflow_add-start-in-loop-block g c = block_start c.args.places.now.items (owner_of c.args.seat.now.me.0) c.args.p c.args.begin c.args.first (length c.args.bytes.now) c.requires.places c.requires.held c.requires.begin c.requires.inside c.loop-block.block c.loop-block-test.true
+
+pub overflow_mul-part : goal.overflow_mul-part
+overflow_mul-part g c = block_byte c.args.places.now.items (owner_of c.args.seat.now.me.0) c.args.p c.args.begin c.args.first (length c.args.bytes.now) c.requires.places c.requires.held c.requires.begin c.requires.inside c.loop-block.block c.loop-block-test.true
+
+pub overflow_mul-part-in-loop-block : goal.overflow_mul-part-in-loop-block
+overflow_mul-part-in-loop-block g c = block_byte c.args.places.now.items (owner_of c.args.seat.now.me.0) c.args.p c.args.begin c.args.first (length c.args.bytes.now) c.requires.places c.requires.held c.requires.begin c.requires.inside c.loop-block.block c.loop-block-test.true
+
+pub overflow_add-part : goal.overflow_add-part
+overflow_add-part g c = block_end c.args.places.now.items (owner_of c.args.seat.now.me.0) c.args.p c.args.begin c.args.first (length c.args.bytes.now) c.requires.places c.requires.held c.requires.begin c.requires.inside c.loop-block.block c.loop-block-test.true
+
+pub slice_bounds-part-count : goal.slice_bounds-part-count
+slice_bounds-part-count g c = block_begins c.loop-block.block
+
+pub slice_bounds-part-start : goal.slice_bounds-part-start
+slice_bounds-part-start g c = block_begins c.loop-block.block
+
+pub slice_bounds-part-end : goal.slice_bounds-part-end
+slice_bounds-part-end g c = block_ends c.loop-block.block (length c.args.bytes.now) (length c.args.bytes.now) c.loop-block-test.true refl
+
+pub overflow_mul-block : goal.overflow_mul-block
+overflow_mul-block g c = block_words c.args.places.now.items (owner_of c.args.seat.now.me.0) c.args.p c.args.begin c.args.first (length c.args.bytes.now) c.requires.places c.requires.held c.requires.begin c.requires.inside c.loop-block.block c.loop-block-test.true
+
+pub overflow_add-first : goal.overflow_add-first
+overflow_add-first g c = block_first c.args.places.now.items (owner_of c.args.seat.now.me.0) c.args.p c.args.begin c.args.first (length c.args.bytes.now) c.requires.places c.requires.held c.requires.begin c.requires.inside c.loop-block.block c.loop-block-test.true
+
+pub store_thirty_two-requires : goal.store_thirty_two-requires
+store_thirty_two-requires g c =
+    let fits : 256 * c.loop-block.block + 256 ≤ length c.args.bytes.now = block_ends c.loop-block.block (length c.args.bytes.now) (length c.args.bytes.now) c.loop-block-test.true refl in
+    let r : StoresRow c.args.seat.now.table_id c.args.shared.now.table_id c.args.seat.now.me.0 c.args.places.now.items c.args.p c.args.first (length c.args.bytes.now) = record {
+      table = c.requires.table;
+      owner = c.requires.owner;
+      places = c.requires.places;
+      held = c.requires.held;
+      soiled = c.requires.soiled;
+      short = c.requires.short;
+      inside = c.requires.inside;
+    } in
+    let s = stores_on _ _ _ _ _ _ _ _ (c.args.first + 32 * c.loop-block.block) _ _ _ _ r c.loop-block.invariant.table c.loop-block.invariant.owner c.loop-block.invariant.wrote (block_inside c.loop-block.block c.args.first c.args.bytes.now (length c.args.bytes.now) fits refl) in record {
+      table = s.table;
+      owner = s.owner;
+      places = s.places;
+      start = block_stays c.args.places.now.items (owner_of c.args.seat.now.me.0) c.args.p c.args.begin c.args.first (length c.args.bytes.now) c.requires.places c.requires.held c.requires.begin c.requires.inside c.loop-block.block c.loop-block-test.true;
+      held = s.held;
+      soiled = s.soiled;
+      short = s.short;
+      inside = s.inside;
+      count = block_long c.loop-block.block c.args.bytes.now fits;
+    }
+
+pub loop-block-smaller : goal.loop-block-smaller
+loop-block-smaller g c = fewer (length c.args.bytes.now / 256) c.loop-block.block c.loop-block-test.true
 
 pub loop-block-preserved : goal.loop-block-preserved
 loop-block-preserved g c =
@@ -37,6 +94,12 @@ loop-block-preserved g c =
           (part_words c.args.bytes.now (256 * c.loop-block.block) (256 * c.loop-block.block + 256 - 256 * c.loop-block.block) (32 * c.loop-block.block) 32 (omega arith) (omega arith)) c.loop-block.invariant.events c.store_thirty_two.ensures.events;
     }
 
+pub returns-clause-table : goal.returns-clause-table
+returns-clause-table g c = c.loop-block.invariant.table
+
+pub returns-clause-owner : goal.returns-clause-owner
+returns-clause-owner g c = c.loop-block.invariant.owner
+
 -- the blocks are all bytes
 pub returns-clause-wrote : goal.returns-clause-wrote
 returns-clause-wrote g c =
@@ -53,10 +116,3 @@ returns-clause-events g c =
     let whole = c.requires.whole in
     let all : 32 * c.loop-block.block ≡ length c.args.bytes.now / 8 = omega arith in
     subst (λ n. StoredEach c.args.p c.args.first (packed_word c.args.bytes.now) n (owner_of c.args.seat.now.me.0) (owner_of c.loop-block.seat.me.0)) all c.loop-block.invariant.events
-
--- the remainder is the number itself
-pub store_thirty_two-requires-clause-start : goal.store_thirty_two-requires-clause-start
-store_thirty_two-requires-clause-start g c =
-    let below = c.loop-block-test.true in
-    let within = places_within c.args.p c.args.places.now.items (owner_of c.args.seat.now.me.0) c.requires.places c.requires.held in
-    omega (arith, c.requires.begin, c.requires.inside, within)

@@ -1,29 +1,105 @@
-use Rattle.std.proofs.Common.{◌≡◌, ◌+◌, ◌-◌, ◌*◌, ◌/◌, ℕ, length, take, drop, refl, sym, ap, ◌∙◌, arith}
+use Rattle.std.proofs.Common.{◌≡◌, ◌+◌, ◌-◌, ◌*◌, ◌/◌, ◌≤◌, ℕ, length, take, drop, refl, ◌∙◌, arith}
 use Rattle.std.proofs.lemmas.List.{length-drop, length-take-le}
-use Rattle.atomic_table.specs.Seated.{TableId}
 use Rattle.far_word.specs.Bytes.{packed_word}
-use Rattle.far_table.specs.Layout.{table_words}
-use Rattle.far_table.specs.View.{OwnerView}
 use Rattle.far_table.specs.RowTells.{StoredEach}
 use Rattle.far_table.specs.Tells.{owner_of}
 use Rattle.far_table.proofs.RowEvents.{part_words, stored_none, stored_part}
-use Rattle.far_table.proofs.WholeWords.{part_wrote, places_within, places_wrote}
+use Rattle.far_table.proofs.RowParts.{StoresRow, all_of, first_fits, head_inside, head_long, later_start, left_inside, left_words, none_below, start_fits, start_stays, stores_on}
+use Rattle.far_table.proofs.WholeWords.{part_wrote}
 use Rattle.far_table.proofs.seat_rows.store_rest.Goals as goal
 
-pub store_some-requires-3-clause-places : goal.store_some-requires-3-clause-places
-store_some-requires-3-clause-places g c = places_wrote c.args.p _ _ c.args.places.now.items (owner_of c.args.seat.now.me.0) (owner_of c.store_some-2.new.seat.me.0) c.store_some-2.ensures.wrote c.requires.places
+pub store_some-requires : goal.store_some-requires
+store_some-requires g c = record {
+  table = c.requires.table;
+  owner = c.requires.owner;
+  places = c.requires.places;
+  start = c.requires.start;
+  held = c.requires.held;
+  soiled = c.requires.soiled;
+  short = c.requires.short;
+  inside = c.requires.inside;
+  count = omega (arith, c.requires.whole);
+}
 
-pub store_some-requires-3-clause-table : goal.store_some-requires-3-clause-table
-store_some-requires-3-clause-table g c =
-    let e = c.store_some-2.ensures in
-    (e.table ∙ c.requires.table.0, ap (λ (z : TableId). z.words) e.table ∙ (c.requires.table.1 ∙ ap (λ (z : OwnerView). table_words z.logs) (sym e.wrote.rest)))
+pub returns-then-count-lt4-clause-table : goal.returns-then-count-lt4-clause-table
+returns-then-count-lt4-clause-table g c = c.store_some.ensures.table
 
--- the remainder is the number itself
-pub store_some-requires-2-clause-start : goal.store_some-requires-2-clause-start
-store_some-requires-2-clause-start g c =
-    let many = c.if-count-lt4.false in
-    let within = places_within c.args.p c.args.places.now.items (owner_of c.args.seat.now.me.0) c.requires.places c.requires.held in
-    omega (arith, c.requires.start, c.requires.inside, within)
+pub returns-then-count-lt4-clause-owner : goal.returns-then-count-lt4-clause-owner
+returns-then-count-lt4-clause-owner g c = c.store_some.ensures.owner
+
+pub returns-then-count-lt4-clause-wrote : goal.returns-then-count-lt4-clause-wrote
+returns-then-count-lt4-clause-wrote g c = c.store_some.ensures.wrote
+
+pub returns-then-count-lt4-clause-events : goal.returns-then-count-lt4-clause-events
+returns-then-count-lt4-clause-events g c = c.store_some.ensures.events
+
+pub slice_bounds-four-count : goal.slice_bounds-four-count
+slice_bounds-four-count g c = none_below 32
+
+pub slice_bounds-four-start : goal.slice_bounds-four-start
+slice_bounds-four-start g c = none_below 32
+
+pub slice_bounds-four-end : goal.slice_bounds-four-end
+slice_bounds-four-end g c = let fits : 32 ≤ length c.args.bytes.now = omega (arith, c.if-count-lt4.false) in fits
+
+pub store_some-requires-2 : goal.store_some-requires-2
+store_some-requires-2 g c =
+    let fits : 32 ≤ length c.args.bytes.now = omega (arith, c.if-count-lt4.false) in record {
+      table = c.requires.table;
+      owner = c.requires.owner;
+      places = c.requires.places;
+      start = start_stays c.args.places.now.items (owner_of c.args.seat.now.me.0) c.args.p c.args.start c.args.first (length c.args.bytes.now) c.requires.places c.requires.held c.requires.start c.requires.inside 4 (omega arith) fits;
+      held = c.requires.held;
+      soiled = c.requires.soiled;
+      short = c.requires.short;
+      inside = head_inside c.args.first 32 _ c.args.bytes.now fits c.requires.inside;
+      count = head_long 32 c.args.bytes.now fits;
+    }
+
+pub slice_bounds-left-count : goal.slice_bounds-left-count
+slice_bounds-left-count g c = let fits : 32 ≤ length c.args.bytes.now = omega (arith, c.if-count-lt4.false) in fits
+
+pub slice_bounds-left-start : goal.slice_bounds-left-start
+slice_bounds-left-start g c = let fits : 32 ≤ length c.args.bytes.now = omega (arith, c.if-count-lt4.false) in fits
+
+pub slice_bounds-left-end : goal.slice_bounds-left-end
+slice_bounds-left-end g c = all_of (length c.args.bytes.now)
+
+pub overflow_add-start : goal.overflow_add-start
+overflow_add-start g c = start_fits c.args.places.now.items (owner_of c.args.seat.now.me.0) c.args.p c.args.start c.args.first (length c.args.bytes.now) c.requires.places c.requires.held c.requires.start c.requires.inside 4 (omega (arith, c.if-count-lt4.false))
+
+pub overflow_add-next : goal.overflow_add-next
+overflow_add-next g c = first_fits c.args.places.now.items (owner_of c.args.seat.now.me.0) c.args.p c.args.start c.args.first (length c.args.bytes.now) c.requires.places c.requires.held c.requires.start c.requires.inside 4 (omega (arith, c.if-count-lt4.false))
+
+pub store_some-requires-3 : goal.store_some-requires-3
+store_some-requires-3 g c =
+    let fits : 32 ≤ length c.args.bytes.now = omega (arith, c.if-count-lt4.false) in
+    let r : StoresRow c.args.seat.now.table_id c.args.shared.now.table_id c.args.seat.now.me.0 c.args.places.now.items c.args.p c.args.first (length c.args.bytes.now) = record {
+      table = c.requires.table;
+      owner = c.requires.owner;
+      places = c.requires.places;
+      held = c.requires.held;
+      soiled = c.requires.soiled;
+      short = c.requires.short;
+      inside = c.requires.inside;
+    } in
+    let s = stores_on _ _ _ _ _ _ _ _ (c.args.first + 4) _ _ _ _ r c.store_some-2.ensures.table c.store_some-2.ensures.owner c.store_some-2.ensures.wrote (left_inside c.args.first (c.args.first + 4) 4 32 c.args.bytes.now fits refl refl) in record {
+      table = s.table;
+      owner = s.owner;
+      places = s.places;
+      start = later_start c.args.start _ c.args.first 4 c.requires.start;
+      held = s.held;
+      soiled = s.soiled;
+      short = s.short;
+      inside = s.inside;
+      count = left_words 4 32 c.args.bytes.now fits refl c.requires.whole;
+    }
+
+pub returns-clause-table : goal.returns-clause-table
+returns-clause-table g c = c.store_some-3.ensures.table ∙ c.store_some-2.ensures.table
+
+pub returns-clause-owner : goal.returns-clause-owner
+returns-clause-owner g c = c.store_some-3.ensures.owner
 
 pub returns-clause-wrote : goal.returns-clause-wrote
 returns-clause-wrote g c =

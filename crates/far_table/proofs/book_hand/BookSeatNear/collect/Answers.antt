@@ -1,4 +1,5 @@
-use Rattle.std.proofs.Common.{◌∙◌, refl, sym, ap, arith}
+use Rattle.std.proofs.Common.{◌∙◌, refl, sym, ap, subst, arith}
+use Rattle.far_hand.specs.FindsJob.{FindsJob}
 use Rattle.far_hand.proofs.Offering.{collect_empties}
 use Rattle.far_table.specs.BookViews.{saw_job_view}
 use Rattle.far_table.specs.Stands.{book_of}
@@ -35,3 +36,15 @@ returns-then-old-found-clause-made g c = (
 pub returns-else-old-found-clause-kept : goal.returns-else-old-found-clause-kept
 returns-else-old-found-clause-kept g c =
     ap book_state (view_is _ _ _ _ _ (book_lost (λ w. saw_job_view c.args.job w (book_of c.args.self.now.seat.me.0)) 0 c.compare_exchange-found.result (c.compare_exchange-found.ensures.2 c.args.job refl).1 (λ e. c.if-old-found.false (sym e))))
+
+pub returns-else-old-found-clause-other : goal.returns-else-old-found-clause-other
+returns-else-old-found-clause-other g c = λ e. c.if-old-found.false (sym e)
+
+pub returns-else-old-found-clause-found : goal.returns-else-old-found-clause-found
+returns-else-old-found-clause-found g c = subst (λ v. FindsJob v c.compare_exchange-found.result) (sym c.requires.seen) (c.compare_exchange-found.ensures.2 c.args.job refl).0
+
+pub returns-else-old-found-clause-lost : goal.returns-else-old-found-clause-lost
+returns-else-old-found-clause-lost g c = (
+  c.compare_exchange-found.ensures.0,
+  seat_made _ _ _ _ _ (book_lost (λ w. saw_job_view c.args.job w (book_of c.args.self.now.seat.me.0)) 0 c.compare_exchange-found.result (c.compare_exchange-found.ensures.2 c.args.job refl).1 (λ e. c.if-old-found.false (sym e))),
+)
