@@ -1,4 +1,5 @@
-use Rattle.std.proofs.Common.{ap, sym, ◌∙◌, Some}
+use Rattle.std.proofs.Common.{ℕ, ap, subst, sym, ◌∙◌, Some}
+use Rattle.std.specs.Prelude.{IsSome}
 use Rattle.far_word.specs.Pointer.{read_of}
 use Rattle.far_core.specs.declared.event.Event.TheVariants.{Offer}
 use Rattle.far_core.specs.state.Memory.{state_of}
@@ -11,3 +12,9 @@ set_offer-requires-clause-layout c =
     let s = state_of c.args.self.now in
     offer_layout s c.requires.law c.args.job c.args.pointer c.args.to (is_fact s (Offer c.args.job c.args.pointer c.args.to) c.requires.law c.requires.legal)
     c.in-Near.len c.in-Near.ds c.in-Near.place c.in-Near.marks (ap read_of (sym c.cell.ensures) ∙ c.known.ensures ∙ ap (λ v. Some v) c.in-Near.is)
+
+pub known-requires : goal.known-requires
+known-requires c = subst (λ (w : ℕ). IsSome (read_of w)) (sym c.cell.ensures) (c.requires.law.cells.cell_read c.args.pointer).1
+
+pub set_offer-requires-clause-job : goal.set_offer-requires-clause-job
+set_offer-requires-clause-job c = (is_fact (state_of c.args.self.now) (Offer c.args.job c.args.pointer c.args.to) c.requires.law c.requires.legal).0
