@@ -5,6 +5,7 @@ use Rattle.std.proofs.Common.{◌≡◌, ◌∙◌, ℕ, ap, refl, sym, subst}
 use Rattle.std.specs.Prelude.{IfSome}
 use Rattle.far_core.specs.state.State.{State}
 use Rattle.far_core.proofs.Put.{put_same}
+use Rattle.far_hand.proofs.Closure.{no_call}
 use Rattle.far_hand.proofs.Finding.{finds_is}
 use Rattle.far_book.proofs.region.Renamings.{same_seen}
 
@@ -33,3 +34,39 @@ returns-in-Some-clause-unseen g c = subst (λ o. IfSome o (λ (w : ℕ). (c.in-S
 
 pub returns-in-None-clause-unseen : goal.returns-in-None-clause-unseen
 returns-in-None-clause-unseen g c = subst (λ o. IfSome o (λ (w : ℕ). (c.see.result ≡ w) × (c.see.new.self ≡ c.args.self.now))) (sym c.in-None.is) tt
+
+pub see-requires : goal.see-requires
+see-requires g c = record { pointer = c.requires.pointer }
+
+pub returns-in-Some-clause-set : goal.returns-in-Some-clause-set
+returns-in-Some-clause-set g c _ = refl
+
+pub returns-in-Some-clause-came : goal.returns-in-Some-clause-came
+returns-in-Some-clause-came g c = no_call refl
+
+pub returns-in-Some-clause-order : goal.returns-in-Some-clause-order
+returns-in-Some-clause-order g c = refl
+
+pub returns-in-Some-clause-device : goal.returns-in-Some-clause-device
+returns-in-Some-clause-device g c = refl
+
+pub returns-in-None-clause-found : goal.returns-in-None-clause-found
+returns-in-None-clause-found g c = c.see.ensures.found
+
+pub returns-in-None-clause-kept : goal.returns-in-None-clause-kept
+returns-in-None-clause-kept g c = c.see.ensures.kept
+
+pub returns-in-None-clause-exact : goal.returns-in-None-clause-exact
+returns-in-None-clause-exact g c = c.see.ensures.exact
+
+pub returns-in-None-clause-set : goal.returns-in-None-clause-set
+returns-in-None-clause-set g c = c.see.ensures.set
+
+pub returns-in-None-clause-came : goal.returns-in-None-clause-came
+returns-in-None-clause-came g c = c.see.ensures.came
+
+pub returns-in-None-clause-order : goal.returns-in-None-clause-order
+returns-in-None-clause-order g c = c.see.ensures.order
+
+pub returns-in-None-clause-device : goal.returns-in-None-clause-device
+returns-in-None-clause-device g c = c.see.ensures.device

@@ -10,10 +10,10 @@ use Rattle.far_core.specs.state.State.{State, put}
 use Rattle.far_core.proofs.Put.{put_same}
 use Rattle.far_hand.specs.Finds.{Finds}
 use Rattle.far_hand.specs.FindsJob.{job_found}
-use Rattle.far_hand.proofs.Closure.{then_came}
+use Rattle.far_hand.proofs.Closure.{no_call, then_came}
 use Rattle.far_hand.proofs.JobsFound.{same_job}
 use Rattle.far_book.specs.book.BookOf.{BookOf}
-use Rattle.far_book.specs.book.Collecting.{CollectsKnown, GoesAsFound, found_so}
+use Rattle.far_book.specs.book.Collecting.{CollectsKnown, GoesAsFound, found_so, goes_known}
 use Rattle.far_book.specs.book.Jobs.{is_good}
 use Rattle.far_book.proofs.region.Going.{goes_on}
 use Rattle.far_book.proofs.region.JobNotes.{job_pointer, known_job, unknown_job}
@@ -31,6 +31,29 @@ returns-in_default-clause-collects g c =
     let same : s ≡ g.N.Near.view c.args.self.now.near = ap (λ (x : BookOf g.row.N.Denot g.row.D.Denot). g.N.Near.view x.near) c.self.view_is in
     let none = unknown_job s.round_epoch s.round s.copying b.ledger.jobs c.self.invariant.0.notes.jobs c.args.job (sym c.noted.ensures ∙ c.in_default.is) in
     by_none (g.N.Near.view c.args.self.now.near) (g.N.Near.view c.args.self.now.near) c.args.job _ (ap (λ (x : State). job_at x.copying.word c.args.job) (sym same) ∙ none) refl
+
+pub returns-in_default-clause-exact : goal.returns-in_default-clause-exact
+returns-in_default-clause-exact g c still =
+    let b = c.self.inside in
+    let s = g.N.Near.view b.near in
+    let same : s ≡ g.N.Near.view c.args.self.now.near = ap (λ (x : BookOf g.row.N.Denot g.row.D.Denot). g.N.Near.view x.near) c.self.view_is in
+    let none = unknown_job s.round_epoch s.round s.copying b.ledger.jobs c.self.invariant.0.notes.jobs c.args.job (sym c.noted.ensures ∙ c.in_default.is) in
+    ap (goes_known (g.N.Near.view c.args.self.now.near) c.args.job) (ap (λ (x : State). job_at x.copying.word c.args.job) (sym same) ∙ none)
+
+pub returns-in_default-clause-none : goal.returns-in_default-clause-none
+returns-in_default-clause-none g c _ = refl
+
+pub returns-in_default-clause-came : goal.returns-in_default-clause-came
+returns-in_default-clause-came g c = no_call refl
+
+pub returns-in_default-clause-order : goal.returns-in_default-clause-order
+returns-in_default-clause-order g c = refl
+
+pub returns-in_default-clause-device : goal.returns-in_default-clause-device
+returns-in_default-clause-device g c = refl
+
+some_isnt : (o : Option Job) (job : Job) → o ≡ Some job → o ≡ None → ⊥
+some_isnt o job is none = cc
 
 -- ---- a job is written down
 module _ (g : Over) (c : In-Some g) where
@@ -75,3 +98,39 @@ returns-clause-collects g c =
 
 pub returns-clause-came : goal.returns-clause-came
 returns-clause-came g c = then_came (then_came c.see_job-word.ensures.came c.see-cell.ensures.came) c.end_job.ensures.came
+
+pub end_job-requires-clause-range : goal.end_job-requires-clause-range
+end_job-requires-clause-range g c = c.requires.range
+
+pub end_job-requires-clause-seen : goal.end_job-requires-clause-seen
+end_job-requires-clause-seen g c =
+    let s = g.N.Near.view c.args.self.now.near in
+    sym (ap (λ (x : State). x.copying.word c.args.job) (found_by s _ _ c.args.job c.see_job-word.result c.see-cell.result c.in-Some.noted.job c.see_job-word.ensures.kept c.see-cell.ensures.kept) ∙ put_same s.copying.word c.args.job c.see_job-word.result c.args.job refl)
+
+pub end_job-requires-clause-good : goal.end_job-requires-clause-good
+end_job-requires-clause-good g c =
+    let h = (goal.at.end_job-requires-clause-good g c).In-Some in
+    let s = g.N.Near.view c.args.self.now.near in
+    (known g h).1 ∙ ap (λ (x : State). is_good x.round_epoch x.round x.copying.since c.args.job c.in-Some.noted.job) (same g h)
+    ∙ sym (ap (λ (x : State). is_good x.round_epoch x.round x.copying.since c.args.job c.in-Some.noted.job) (found_by s _ _ c.args.job c.see_job-word.result c.see-cell.result c.in-Some.noted.job c.see_job-word.ensures.kept c.see-cell.ensures.kept))
+
+pub end_job-requires-clause-found : goal.end_job-requires-clause-found
+end_job-requires-clause-found g c =
+    let p = c.in-Some.noted.job.pointer in
+    sym (ap (λ (x : State). x.cell p) c.see-cell.ensures.kept ∙ put_same (g.N.Near.view c.see_job-word.new.self.near).cell p c.see-cell.result p refl)
+
+pub returns-clause-exact : goal.returns-clause-exact
+returns-clause-exact g c still =
+    let s = g.N.Near.view c.args.self.now.near in
+    let job = c.in-Some.noted.job in
+    ap (goes_known s c.args.job) (here g (goal.at.returns-clause-exact g c).In-Some) ∙ ap (λ (x : State). goes_known x c.args.job (Some job)) (sym (c.see-cell.ensures.set still ∙ c.see_job-word.ensures.set still))
+    ∙ c.end_job.ensures.exact still
+
+pub returns-clause-none : goal.returns-clause-none
+returns-clause-none g c none = absurd (some_isnt _ c.in-Some.noted.job (here g (goal.at.returns-clause-none g c).In-Some) none)
+
+pub returns-clause-order : goal.returns-clause-order
+returns-clause-order g c = c.end_job.ensures.order ∙ c.see-cell.ensures.order ∙ c.see_job-word.ensures.order
+
+pub returns-clause-device : goal.returns-clause-device
+returns-clause-device g c = c.end_job.ensures.device ∙ c.see-cell.ensures.device ∙ c.see_job-word.ensures.device

@@ -1,13 +1,10 @@
 use Rattle.far_book.proofs.book.Book.leave_clean.Goals as goal
-use Rattle.std.proofs.Common.{◌≡◌, ◌∙◌, ◌⊎◌, ℕ, Bool, true, false, ap, inl, inr, refl, sym, Some, None}
+use Rattle.std.proofs.Common.{◌≡◌, ◌∙◌, ◌⊎◌, ℕ, Bool, true, false, ap, inl, inr, refl, Some, None}
 use Rattle.std.specs.Prelude.{◌&&◌, ◌||◌, is_some, not}
 use Rattle.std.proofs.lemmas.Bool.{false≢true}
 use Rattle.far_word.specs.Pointer.{read_of}
 use Rattle.far_core.specs.events.Naming.{is_dropped}
 use Rattle.far_core.specs.state.Law.{is_dirty}
-use Rattle.far_hand.proofs.Closure.{no_call}
-use Rattle.far_hand.proofs.Finding.{finds_same}
-use Rattle.far_book.proofs.region.Renamings.{same_seen}
 
 -- a word is an answer, and no answer isn't
 some_isnt : (w : ℕ) → Some w ≡ None → ⊥
@@ -22,41 +19,6 @@ ends_by false false k h = absurd (false≢true h)
 pub is_dirty-requires : goal.is_dirty-requires
 is_dirty-requires g c = ap is_some (ap read_of c.requires.found ∙ c.requires.near.near)
 
--- ---- it has DIRTY
-pub returns-then-is_dirty-clause-left : goal.returns-then-is_dirty-clause-left
-returns-then-is_dirty-clause-left g c odd = absurd (some_isnt c.args.found odd)
-
-pub returns-then-is_dirty-clause-far : goal.returns-then-is_dirty-clause-far
-returns-then-is_dirty-clause-far g c odd = absurd (some_isnt c.args.found odd)
-
-pub returns-then-is_dirty-clause-won_by : goal.returns-then-is_dirty-clause-won_by
-returns-then-is_dirty-clause-won_by g c odd = absurd (some_isnt c.args.found odd)
-
-pub returns-then-is_dirty-clause-away : goal.returns-then-is_dirty-clause-away
-returns-then-is_dirty-clause-away g c still odd = absurd (some_isnt c.args.found odd)
-
-pub returns-then-is_dirty-clause-found : goal.returns-then-is_dirty-clause-found
-returns-then-is_dirty-clause-found g c = finds_same c.args.found
-
-pub returns-then-is_dirty-clause-kept : goal.returns-then-is_dirty-clause-kept
-returns-then-is_dirty-clause-kept g c = sym (same_seen (g.N.Near.view c.args.self.now.near) c.args.pointer c.args.found 0 c.requires.found)
-
-pub returns-then-is_dirty-clause-marked : goal.returns-then-is_dirty-clause-marked
-returns-then-is_dirty-clause-marked g c = inr (sym c.is_dirty.ensures ∙ c.if-is_dirty.true)
-
-pub returns-then-is_dirty-clause-won : goal.returns-then-is_dirty-clause-won
-returns-then-is_dirty-clause-won g c still = refl
-
-pub returns-then-is_dirty-clause-names : goal.returns-then-is_dirty-clause-names
-returns-then-is_dirty-clause-names g c = no_call refl
-
-pub returns-then-is_dirty-clause-order : goal.returns-then-is_dirty-clause-order
-returns-then-is_dirty-clause-order g c = refl
-
-pub returns-then-is_dirty-clause-device : goal.returns-then-is_dirty-clause-device
-returns-then-is_dirty-clause-device g c = refl
-
--- ---- it is named
 pub name_far-requires-clause-pointer : goal.name_far-requires-clause-pointer
 name_far-requires-clause-pointer g c = c.requires.pointer
 
@@ -72,17 +34,8 @@ name_far-requires-clause-evac g c = c.requires.evac
 pub name_far-requires-clause-alive : goal.name_far-requires-clause-alive
 name_far-requires-clause-alive g c = c.requires.alive
 
-pub name_far-requires-clause-words : goal.name_far-requires-clause-words
-name_far-requires-clause-words g c dirty = absurd (false≢true (sym c.if-is_dirty.false ∙ c.is_dirty.ensures ∙ dirty))
-
-pub name_far-requires-clause-held : goal.name_far-requires-clause-held
-name_far-requires-clause-held g c dirty = absurd (false≢true (sym c.if-is_dirty.false ∙ c.is_dirty.ensures ∙ dirty))
-
 pub returns-in-Ok-clause-left : goal.returns-in-Ok-clause-left
 returns-in-Ok-clause-left g c _ = c.in-Ok.ensures.far
-
-pub returns-in-Ok-clause-far : goal.returns-in-Ok-clause-far
-returns-in-Ok-clause-far g c _ = (sym c.is_dirty.ensures ∙ c.if-is_dirty.false, c.in-Ok.ensures.renamed)
 
 pub returns-in-Ok-clause-won_by : goal.returns-in-Ok-clause-won_by
 returns-in-Ok-clause-won_by g c _ = c.in-Ok.ensures.won_by

@@ -2,7 +2,7 @@ use Rattle.far_book.proofs.book.Book.move_by.Given.{Over}
 use Rattle.far_book.proofs.book.Book.move_by.Goals.{After-settle}
 use Rattle.far_book.proofs.book.Book.move_by.Goals as goal
 use Rattle.std.proofs.Common.{◌≡◌, ◌*◌, ◌<◌, ◌∙◌, true, false, ap, refl, subst, sym, Option, Some, None}
-use Rattle.std.specs.Prelude.{Result, Ok, Err, IfNone, IfSome, MatchOption}
+use Rattle.std.specs.Prelude.{Result, Ok, IfNone, IfSome, MatchOption}
 use Rattle.std.proofs.lemmas.Bool.{false_from_ne_true}
 use Rattle.far_device.specs.Following.{Follows, other_than}
 use Rattle.far_device.proofs.Following.{follows_itself}

@@ -2,6 +2,7 @@ use Rattle.far_book.proofs.book.Book.offer.Given.{Over}
 use Rattle.far_book.proofs.book.Book.offer.Goals.{After-room, In-Near, In-Some-room}
 use Rattle.far_book.proofs.book.Book.offer.Goals as goal
 use Rattle.std.proofs.Common.{◌≡◌, ◌∙◌, ◌*◌, ◌/◌, ◌<◌, false, inl, inr, arith, ap, refl, sym, subst, Some, None}
+use Rattle.std.specs.Prelude.{is_some}
 use Rattle.std.proofs.lemmas.Bool.{true≢false, false≢true}
 use Rattle.far_word.specs.declared.pointer.PtrWord.TheVariants.{Near}
 use Rattle.far_word.specs.declared.sizes.TheConstants.{CELLS}
@@ -21,6 +22,7 @@ use Rattle.far_book.specs.book.Own.{own_part}
 use Rattle.far_book.specs.book.Renaming.{seen}
 use Rattle.far_hand.specs.Came.{Came}
 use Rattle.far_hand.proofs.Closure.{no_call, then_came}
+use Rattle.far_hand.proofs.Finding.{some_found}
 use Rattle.far_book.proofs.region.JobNotes.{empty_word, waiting_word}
 use Rattle.far_book.proofs.region.OfferingCopies.{may_begin, offered_keeps}
 use Rattle.far_book.proofs.region.Offers.{chosen, copyable, goal_is, looked_same, offers, offers_only, seen_clear, wanted}
@@ -56,10 +58,16 @@ told g c =
     ap (λ (x : State). room x (size_of c.in-Near.len) false) (sym (opened g c))
     ∙ ap (λ n. room (g.N.Near.view c.self-2.inside.near) n false) (sym c.size_of-size.ensures) ∙ sym (c.room.ensures (own_part (g.N.Near.view c.self-2.inside.near)) c.self-2.invariant.0.notes)
 
+pub known-requires : goal.known-requires
+known-requires g c = some_found ((g.N.Near.view c.args.self.now.near).cell c.args.pointer) c.see-found.result c.see-found.ensures.found (ap is_some c.requires.clear.4)
+
+pub room-requires-clause-known : goal.room-requires-clause-known
+room-requires-clause-known g c = (own_part (g.N.Near.view c.self-2.inside.near), c.self-2.invariant.0.notes)
+
 pub room-requires-clause-size : goal.room-requires-clause-size
 room-requires-clause-size g c =
     let w = c.see-found.result in
-    let layout : IsPtr (Near c.in-Near.len c.in-Near.ds c.in-Near.from c.in-Near.marks) = (read_says w _ (omega arith) (says g (goal.at.room-requires-clause-size g c).In-Near)).0 in
+    let layout : IsPtr (Near c.in-Near.len c.in-Near.ds c.in-Near.from c.in-Near.marks) = (read_says w _ c.see-found.type_inv (says g (goal.at.room-requires-clause-size g c).In-Near)).0 in
     omega (arith, c.size_of-size.ensures, layout)
 
 able : (g : Over) (c : In-Some-room g) → IsCopyable (g.N.Near.view c.self-2.inside.near) c.in-Some.job c.args.pointer c.in-Near.len c.in-Near.ds c.in-Near.from c.in-Some-room.to

@@ -2,7 +2,7 @@ use Rattle.far_book.proofs.book.Book.place.Given.{Over}
 use Rattle.far_book.proofs.book.Book.place.Goals.{After-room, In-Some}
 use Rattle.far_book.proofs.book.Book.place.Goals as goal
 use Rattle.std.proofs.Common.{◌≡◌, ◌∙◌, ◌*◌, ◌<◌, ap, refl, sym, subst}
-use Rattle.std.specs.Prelude.{Some, true, false}
+use Rattle.std.specs.Prelude.{Some, true}
 use Rattle.std.proofs.lemmas.Bool.{false≢true}
 use Rattle.far_word.specs.declared.sizes.TheConstants.{CELLS}
 use Rattle.far_word.specs.Sizes.{size_of}

@@ -14,6 +14,7 @@ use Rattle.far_book.specs.book.Asking.{answer_of}
 use Rattle.far_book.specs.book.BookOf.{BookOf}
 use Rattle.far_book.specs.book.Dealing.{Leaves}
 use Rattle.far_book.specs.book.Evicting.{IsQuietIn}
+use Rattle.far_book.proofs.region.Handed.{since_book}
 use Rattle.far_book.proofs.region.Evictions.{fault_told, layout, learned_stored, quiet_object, sent_order}
 use Rattle.far_book.proofs.region.Learning.{learned_leaves}
 
@@ -61,13 +62,13 @@ returns g c =
     let called : g.D.Device.writes c.args.self.now.device c.args.pointer (bytes_of (data_at t.word c.args.place) c.args.len) (answer_of c.match-written.result) c.write-written.new.self = search rules in
     record {
       kept = subst (λ (u : State). Leaves u t) same (learned_leaves s t c.args.place (words_for c.args.len) c.read_object.ensures.kept object.bare c.read_object.ensures.learned);
-      exact = search rules;
-      reads = search rules;
+      exact = λ still. c.read_object.ensures.exact still ∙ same;
+      reads = since_book c.self.view_is c.read_object.ensures.reads;
       words = learned_stored s c.self.invariant.0.notes.law c.args.pointer c.args.len c.args.ds c.args.place near t.word c.read_object.ensures.learned;
       held = search rules;
       refused = search rules;
       called = called;
-      order = search rules;
+      order = ap (λ (b : BookOf g.row.N.Denot g.row.D.Denot). b.order) c.self.view_is;
       follows = subst (λ (fails : Bool). Follows g.D.Device.contents g.D.Device.honest g.D.Device.faults g.D.Device.fails_at_most (other_than c.args.pointer) fails c.args.self.now.device c.write-written.new.self)
           (fault_told c.match-written.result) (g.met.D.Device.write_follows _ _ _ _ _ called);
     }
