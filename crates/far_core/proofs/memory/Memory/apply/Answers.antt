@@ -9,6 +9,8 @@ use Rattle.far_core.specs.state.State.{State}
 use Rattle.far_core.proofs.Calls.{next_is_after}
 use Rattle.far_core.proofs.memory.Memory.apply.Goals as goal
 
+-- Two rows an event, if it may be refused. `search` finds each in a second: a new event, at the end of `apply`, needs none.
+
 -- a step that is made, by what its call ensures; one that is refused
 made_by : (s t : State) (r : Reply) (e made : Event) → e ≡ made → is_legal s made ≡ true → t ≡ next_state s made → answer s made ≡ r → (t, r) ≡ step_of s e
 made_by s t r e made is legal next says =
