@@ -5,7 +5,6 @@ pub mod HexPairs
 pub mod HexRooms
 pub mod LastWord
 pub mod LineLemmas
-pub mod Named
 pub mod Numbers
 pub mod Parts
 pub mod PlaceLemmas
