@@ -50,10 +50,7 @@ fn write_record(
     ensures fault { IfErr result (λ _. bytes.new ≡ bytes.old) }
 {
     let start = bytes.len() as u32;
-    let Ok(spelled) = bytes.add(word) else {
-        return Err(AllocError);
-    };
-    if !spelled {
+    if !bytes.add(word)? {
         return Ok(None);
     }
     let count = bytes.len() as u32 - start;
