@@ -1,12 +1,13 @@
 //! What the lock of a heap keeps: its evacuator, with the book over the one book's seat of the named heap's table.
 
-ghost use Rattle.std.specs.Prelude.{◌≡◌, ◌*◌, ◌<◌, [], false, true, IfOk, IfErr, map};
+ghost use Rattle.std.specs.Prelude.{◌≡◌, ◌*◌, ◌<◌, ℕ, [], false, true, IfOk, IfErr, map};
 ghost use Rattle.far_word.specs.declared.refused.Refused.TheVariants.{Memory};
 ghost use Rattle.far_word.specs.declared.sizes.TheConstants.{CELLS};
 ghost use Rattle.far_core.specs.laws.Jobs.{JobsStand};
 ghost use Rattle.far_core.specs.state.Law.{Law};
 ghost use Rattle.far_core.specs.state.Shape.{is_shape};
 ghost use Rattle.far_core.specs.state.State.{State};
+ghost use Rattle.far_hand.specs.MayBe.{NoneViews, ViewsNone};
 ghost use Rattle.far_hand.specs.ShapeOf.{shape_of};
 ghost use Rattle.far_table.specs.BookSeats.{seat_makes, seat_may_be, seat_view};
 ghost use Rattle.far_table.specs.Viewed.{NoneIsGivenOut};
@@ -18,8 +19,9 @@ ghost use Rattle.far_book.specs.book.Rows.{row_of};
 ghost use Rattle.far_evac.specs.Calls.{TakesCensus};
 ghost use Rattle.far_evac.specs.Census.{kind_in};
 ghost use Rattle.far_evac.specs.EvacOf.{SameRound, moment};
-ghost use Rattle.far_evac.specs.MomentLaw.{MomentLaw};
-ghost use Rattle.far_evac.specs.declared.phase.Phase.TheVariants.{Idle};
+ghost use Rattle.far_evac.specs.MomentLaw.{MomentLaw, has_risen};
+ghost use Rattle.far_evac.specs.RoundSteps.{among};
+ghost use Rattle.far_evac.specs.declared.phase.Phase.TheVariants.{Evacuating, Idle};
 ghost use Rattle.far_heap.specs.HeapId.{heap_of};
 
 mod held;
@@ -68,10 +70,7 @@ impl<K: HeapName, D: Device + Drop> Evacuator<K, D> {
         ensures idle { result.phase ≡ Idle }
         ensures none { result.collection ≡ [] }
     {
-        Evacuator {
-            evac: Evac::new(book),
-            of: PhantomData,
-        }
+        Evacuator::over(book, false)
     }
 
     // The same, whose hot objects are offered to copiers while they leave.
@@ -82,8 +81,19 @@ impl<K: HeapName, D: Device + Drop> Evacuator<K, D> {
         ensures idle { result.phase ≡ Idle }
         ensures none { result.collection ≡ [] }
     {
+        Evacuator::over(book, true)
+    }
+
+    // The same, by whether copies may be offered.
+    fn over(book: Book<BookSeat<D>, D>, copying: bool) -> Evacuator<K, D>
+        requires named { heap_of copying book.near ≡ K.heap }
+        requires alone { HasNoJob (seat_view book.near) }
+        ensures book { result.book ≡ book }
+        ensures idle { result.phase ≡ Idle }
+        ensures none { result.collection ≡ [] }
+    {
         Evacuator {
-            evac: Evac::copying(book),
+            evac: held::over(book, copying),
             of: PhantomData,
         }
     }
@@ -105,6 +115,19 @@ impl<K: HeapName, D: Device + Drop> Evacuator<K, D> {
         ensures own { (x : State) → seat_may_be self.now.book.near x → HoldsOwn x (D.contents self.now.book.device) }
         ensures honest { (x : State) → seat_may_be self.now.book.near x → x.honest ≡ true → D.honest self.now.book.device ≡ true }
         ensures there { ∥ ((x : State) × seat_may_be self.now.book.near x) ∥₁ }
+    {
+        self.stands();
+    }
+
+    // What holds by the book and the round alone. Its callers call this, and so pay for one call over the seat of a table.
+    fn stands(&self)
+        ensures named { heap_of self.now.copying self.now.book.near ≡ K.heap }
+        ensures law { Law (own_part (seat_view self.now.book.near)) }
+        ensures moment { MomentLaw (moment seat_view self.now) }
+        ensures far { HoldsFar (seat_view self.now.book.near) (D.contents self.now.book.device) }
+        ensures honest { (seat_view self.now.book.near).honest ≡ true → D.honest self.now.book.device ≡ true }
+        ensures leaving { self.now.phase ≡ Evacuating → (x : State) → seat_may_be self.now.book.near x → NoneViews (among self.now.collection) x }
+        ensures waiting { has_risen self.now.phase ≡ true → (x : State) → seat_may_be self.now.book.near x → (m : ℕ) → (seat_view self.now.book.near).clear m ≡ true → ViewsNone (among self.now.collection) m x }
     {
         held::keeps_law(&self.evac);
     }
@@ -152,6 +175,7 @@ impl<K: HeapName, D: Device + Drop> Evacuator<K, D> {
 
     /// Where a pointer's object is, of a number below 256 for each mutator of [`Evacuator::shape`], with the marks that its cell was found with;
     /// `None` exactly where the cell is free. Its owner may add marks at any moment.
+    #[inline(always)]
     pub fn locate(&mut self, pointer: u16) -> Option<Home>
         requires pointer { pointer < CELLS * (seat_view self.old.book.near).mutators }
         ensures found { FindsHome ⊥ seat_view seat_makes seat_may_be self.old.book self.new.book pointer result }

@@ -1,6 +1,6 @@
 //! What an evacuator does by several calls, over any hand of a book. Each call at the one seat of a table costs its proof seven seconds, and one here none.
 
-ghost use Rattle.std.specs.Prelude.{◌≡◌, ◌⊎◌, ◌/◌, ◌<◌, ◌≤◌, ◌*◌, Some, Ok, Err, true, IsSome, IfOk, IfErr};
+ghost use Rattle.std.specs.Prelude.{◌≡◌, ◌⊎◌, ◌/◌, ◌<◌, ◌≤◌, ◌*◌, ℕ, [], Some, Ok, Err, false, true, IsSome, IfOk, IfErr};
 ghost use Rattle.far_word.specs.Sizes.{size_of};
 ghost use Rattle.far_word.specs.declared.pointer.Place.{Place};
 ghost use Rattle.far_word.specs.declared.refused.Refused.TheVariants.{NoPointer, NoRoom};
@@ -8,34 +8,57 @@ ghost use Rattle.far_word.specs.declared.sizes.TheConstants.{CELLS, LONGEST};
 ghost use Rattle.far_core.specs.state.Law.{Law};
 ghost use Rattle.far_core.specs.state.Room.{room};
 ghost use Rattle.far_core.specs.state.Shape.{is_shape};
+ghost use Rattle.far_core.specs.state.State.{State};
 ghost use Rattle.far_hand.specs.Came.{Came};
+ghost use Rattle.far_hand.specs.MayBe.{NoneViews, ViewsNone};
 ghost use Rattle.far_hand.specs.ShapeOf.{shape_of};
 ghost use Rattle.far_book.specs.book.Calls.{FetchesObject, PlacesObject};
 ghost use Rattle.far_book.specs.book.FarSide.{HoldsFar};
 ghost use Rattle.far_book.specs.book.Fetching.{IsFar};
 ghost use Rattle.far_book.specs.book.Ledger.{IsLowestFree};
-ghost use Rattle.far_book.specs.book.Own.{own_part};
+ghost use Rattle.far_book.specs.book.Own.{HasNoJob, own_part};
 ghost use Rattle.far_evac.specs.EvacOf.{SameRound, moment};
-ghost use Rattle.far_evac.specs.MomentLaw.{MomentLaw};
+ghost use Rattle.far_evac.specs.MomentLaw.{MomentLaw, has_risen};
+ghost use Rattle.far_evac.specs.RoundSteps.{among};
+ghost use Rattle.far_evac.specs.declared.phase.Phase.TheVariants.{Evacuating, Idle};
 ghost use Rattle.far_heap.specs.BookHad.{LacksRoom, NoneFree};
 ghost use Rattle.far_heap.specs.Rounds.{is_round_of};
 
 use crate::evacuator::turns::has_each;
-use far_book::Near;
+use far_book::{Book, Near};
 use far_core::Shape;
 use far_device::Device;
 use far_evac::Evac;
 use far_policy::Chosen;
 use far_word::{Place, Refused};
 
+// An evacuator over a book without jobs, in no round, by whether its hot objects are offered to copiers.
+pub(crate) fn over<N: Near + Drop, D: Device + Drop>(book: Book<N, D>, copying: bool) -> Evac<N, D>
+    requires exact { N.still → copying ≡ false }
+    requires alone { HasNoJob (N.view book.near) }
+    ensures book { result.book ≡ book }
+    ensures idle { result.phase ≡ Idle }
+    ensures none { result.collection ≡ [] }
+    ensures copying { result.copying ≡ copying }
+{
+    if copying {
+        Evac::copying(book)
+    } else {
+        Evac::new(book)
+    }
+}
+
 // What its book knows keeps its part of the law of the core, and the round agrees with it. The device holds bytes of each far object, and of each near one
-// without DIRTY, and is honest where the words say that the far side is.
+// without DIRTY, and is honest where the words say that the far side is. And whom no owner views, as `nobody_views` says.
 pub(crate) fn keeps_law<N: Near + Drop, D: Device + Drop>(evac: &Evac<N, D>)
     ensures law { Law (own_part (N.view evac.now.book.near)) }
     ensures moment { MomentLaw (moment N.view evac.now) }
     ensures far { HoldsFar (N.view evac.now.book.near) (D.contents evac.now.book.device) }
     ensures honest { (N.view evac.now.book.near).honest ≡ true → D.honest evac.now.book.device ≡ true }
+    ensures leaving { evac.now.phase ≡ Evacuating → (x : State) → N.may_be evac.now.book.near x → NoneViews (among evac.now.collection) x }
+    ensures waiting { has_risen evac.now.phase ≡ true → (x : State) → N.may_be evac.now.book.near x → (m : ℕ) → (N.view evac.now.book.near).clear m ≡ true → ViewsNone (among evac.now.collection) m x }
 {
+    evac.nobody_views();
     evac.keeps_law();
     evac.book().keeps_law();
 }

@@ -85,7 +85,8 @@ impl<K: HeapName, D: Device + Drop> Evacuator<K, D> {
             × MatchOption result ((says_far (cell_in found pointer) ≡ false) × (self.new ≡ found))
             (λ answer. (says_far (cell_in found pointer) ≡ true) × FetchesIt D.contents D.honest D.faults D.fails_at_most D.lets_go D.forgets D.reads D.reads_in_place found self.new pointer answer) }
     {
-        if !is_far(self.evac.locate(pointer)) {
+        self.keeps_law();
+        if !is_far(self.locate(pointer)) {
             return None;
         }
         Some(held::fetch(&mut self.evac, pointer))
@@ -104,7 +105,8 @@ impl<K: HeapName, D: Device + Drop> Evacuator<K, D> {
     {
         let pointer = asked.pointer;
         asked.end();
-        if !has_move(self.evac.locate(pointer)) {
+        self.keeps_law();
+        if !has_move(self.locate(pointer)) {
             return None;
         }
         Some(self.evac.move_now(pointer))
@@ -122,7 +124,8 @@ impl<K: HeapName, D: Device + Drop> Evacuator<K, D> {
         ensures again { IfSome result (λ again. again.pointer ≡ asked.pointer) }
     {
         let pointer = asked.pointer;
-        let found = self.evac.locate(pointer);
+        self.keeps_law();
+        let found = self.locate(pointer);
         if has_drop(found) {
             self.evac.retire(pointer);
             asked.end();

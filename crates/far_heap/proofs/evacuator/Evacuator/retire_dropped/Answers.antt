@@ -1,35 +1,45 @@
-use Rattle.std.proofs.Common.{ℕ, subst, sym, refl, ◌∙◌}
+use Rattle.std.proofs.Common.{◌≡◌, ◌∙◌, ◌*◌, ◌<◌, ℕ, true, subst, sym, refl}
 use Rattle.std.proofs.lemmas.Bool.{false≢true}
+use Rattle.far_word.specs.declared.sizes.TheConstants.{CELLS}
+use Rattle.far_core.specs.events.Naming.{is_dropped}
 use Rattle.far_table.specs.declared.book.BookSeat.{BookSeat}
 use Rattle.far_table.specs.BookSeats.{seat_view}
 use Rattle.far_evac.specs.EvacOf.{EvacOf, SameRound}
-use Rattle.far_heap.specs.Helping.{Looks}
+use Rattle.far_heap.specs.HeapId.{HeapId}
+use Rattle.far_heap.specs.Helping.{Looks, cell_in}
 use Rattle.far_heap.proofs.Causes.{freed, retired_free}
 use Rattle.far_heap.proofs.Mines.{none_there}
 use Rattle.far_heap.proofs.Named.{stays_named}
 use Rattle.far_heap.proofs.evacuator.Evacuator.retire_dropped.Goals as goal
 
+pub locate-found-requires : goal.locate-found-requires
+locate-found-requires g c = record { pointer = subst (λ (h : HeapId). c.args.asked.pointer < CELLS * h.mutators) (sym c.keeps_law.ensures.named) c.requires.pointer }
+
+pub retire-requires-clause-pointer : goal.retire-requires-clause-pointer
+retire-requires-clause-pointer g c = subst (λ (h : HeapId). c.args.asked.pointer < CELLS * h.mutators) (sym c.self.invariant) c.requires.pointer
+
 pub retire-requires-clause-dropped : goal.retire-requires-clause-dropped
-retire-requires-clause-dropped g c = sym (c.has_drop.ensures _ c.locate-found.ensures.found.home) ∙ c.if-has_drop.true
+retire-requires-clause-dropped g c = subst (λ (e : EvacOf (BookSeat g.row.D.Denot) g.row.D.Denot). is_dropped (cell_in e c.args.asked.pointer) ≡ true) (sym c.self.view_is)
+    (sym (c.has_drop.ensures _ c.locate-found.ensures.found.home) ∙ c.if-has_drop.true)
 
 pub invariant_of-self : goal.invariant_of-self
-invariant_of-self g c =
-    stays_named _ c.locate-found.new.self c.retire.new.self c.retire.ensures.retired.came c.retire.ensures.round.2
-    (stays_named _ c.self.inside.evac c.locate-found.new.self c.locate-found.ensures.found.came c.locate-found.ensures.round.2 c.self.invariant)
+invariant_of-self g c = stays_named _ c.self.inside.evac c.retire.new.self c.retire.ensures.retired.came c.retire.ensures.round.2 c.self.invariant
 
 pub returns-then-has_drop : goal.returns-then-has_drop
 returns-then-has_drop g c =
     let p : ℕ = c.args.asked.pointer in
     let l = c.locate-found.ensures.found in
+    let round = c.locate-found.ensures.round in
     let r = c.retire.ensures in
-    let found = c.locate-found.new.self in
-    let dropped = sym (c.has_drop.ensures _ l.home) ∙ c.if-has_drop.true in
-    let named = stays_named g.K.HeapName.heap found c.retire.new.self r.retired.came r.round.2 (stays_named g.K.HeapName.heap c.self.inside.evac found l.came c.locate-found.ensures.round.2 c.self.invariant) in record {
-      round = subst (λ (e : EvacOf (BookSeat g.row.D.Denot) g.row.D.Denot). SameRound e c.retire.new.self) c.self.view_is (r.round.0 ∙ c.locate-found.ensures.round.0, r.round.1 ∙ c.locate-found.ensures.round.1, r.round.2 ∙ c.locate-found.ensures.round.2);
+    let found = c.self.inside.evac in
+    let on = subst (λ (e : EvacOf (BookSeat g.row.D.Denot) g.row.D.Denot). SameRound e c.retire.new.self) c.self.view_is r.round in
+    let dropped = subst (λ (e : EvacOf (BookSeat g.row.D.Denot) g.row.D.Denot). is_dropped (cell_in e p) ≡ true) (sym c.self.view_is) (sym (c.has_drop.ensures _ l.home) ∙ c.if-has_drop.true) in
+    let named = stays_named g.K.HeapName.heap found c.retire.new.self r.retired.came r.round.2 c.self.invariant in record {
+      round = (on.0 ∙ round.0, on.1 ∙ round.1, on.2 ∙ round.2);
       retired = (
         found,
-        subst (λ (e : EvacOf (BookSeat g.row.D.Denot) g.row.D.Denot). Looks e found p) c.self.view_is
-            record { made = l.made; found = l.found; kept = l.kept; order = l.order; device = l.device; round = c.locate-found.ensures.round },
+        subst (λ (e : EvacOf (BookSeat g.row.D.Denot) g.row.D.Denot). Looks c.args.self.now e p) (sym c.self.view_is)
+            record { made = l.made; found = l.found; kept = l.kept; order = l.order; device = l.device; round = round },
         λ _. record { retired = r.retired; round = r.round },
         λ h. absurd (false≢true (sym h ∙ dropped)),
       );
@@ -39,14 +49,11 @@ returns-then-has_drop g c =
 
 pub returns-then-is_some : goal.returns-then-is_some
 returns-then-is_some g c =
-    let p : ℕ = c.args.asked.pointer in
-    let l = c.locate-found.ensures.found in
-    let found = c.locate-found.new.self in record {
-      round = subst (λ (e : EvacOf (BookSeat g.row.D.Denot) g.row.D.Denot). SameRound e found) c.self.view_is c.locate-found.ensures.round;
+    let l = c.locate-found.ensures.found in record {
+      round = c.locate-found.ensures.round;
       retired = (
-        found,
-        subst (λ (e : EvacOf (BookSeat g.row.D.Denot) g.row.D.Denot). Looks e found p) c.self.view_is
-            record { made = l.made; found = l.found; kept = l.kept; order = l.order; device = l.device; round = c.locate-found.ensures.round },
+        c.locate-found.new.self,
+        record { made = l.made; found = l.found; kept = l.kept; order = l.order; device = l.device; round = c.locate-found.ensures.round },
         λ h. absurd (false≢true (sym (sym (c.has_drop.ensures _ l.home) ∙ c.if-has_drop.false) ∙ h)),
         λ _. refl,
       );
@@ -59,12 +66,11 @@ returns g c =
     let p : ℕ = c.args.asked.pointer in
     let l = c.locate-found.ensures.found in
     let found = c.locate-found.new.self in
-    let named = stays_named g.K.HeapName.heap c.self.inside.evac found l.came c.locate-found.ensures.round.2 c.self.invariant in record {
-      round = subst (λ (e : EvacOf (BookSeat g.row.D.Denot) g.row.D.Denot). SameRound e found) c.self.view_is c.locate-found.ensures.round;
+    let named = stays_named g.K.HeapName.heap c.args.self.now found l.came c.locate-found.ensures.round.2 c.keeps_law.ensures.named in record {
+      round = c.locate-found.ensures.round;
       retired = (
         found,
-        subst (λ (e : EvacOf (BookSeat g.row.D.Denot) g.row.D.Denot). Looks e found p) c.self.view_is
-            record { made = l.made; found = l.found; kept = l.kept; order = l.order; device = l.device; round = c.locate-found.ensures.round },
+        record { made = l.made; found = l.found; kept = l.kept; order = l.order; device = l.device; round = c.locate-found.ensures.round },
         λ h. absurd (false≢true (sym (sym (c.has_drop.ensures _ l.home) ∙ c.if-has_drop.false) ∙ h)),
         λ _. refl,
       );
