@@ -1,6 +1,6 @@
 -- An object is dealt with where copies may be offered, as a word says that was found in its cell.
 use Rattle.far_book.specs.book.Effects.{moved}
-use Rattle.std.proofs.Common.{◌≡◌, ◌⊎◌, ◌<◌, ◌==◌, ◌/◌, ◌||◌, ℕ, Bool, true, false, cond, Option, Some, None, Result, Ok, Err, IfOk, IfErr, List, [], inl, inr, arith, ap, sym, refl, ◌∙◌, subst}
+use Rattle.std.proofs.Common.{◌≡◌, ◌⊎◌, ◌+◌, ◌<◌, ◌≤◌, ◌==◌, ◌/◌, ◌||◌, ℕ, Bool, true, false, cond, Option, Some, None, Result, Ok, Err, IfOk, IfErr, List, [], inl, inr, arith, ap, sym, refl, ◌∙◌, subst}
 use Rattle.std.proofs.lemmas.Bool.{eq-eqb, eqb-true, true≢false}
 use Rattle.far_word.specs.declared.mark.Marks.{Marks}
 use Rattle.far_word.specs.declared.pointer.Place.{Place}
@@ -11,6 +11,7 @@ use Rattle.far_word.specs.Pointer.{read_of}
 use Rattle.far_word.specs.Sizes.{size_of}
 use Rattle.far_device.specs.declared.fault.DeviceFault.{DeviceFault}
 use Rattle.far_word.specs.declared.refused.Refused.{Refused}
+use Rattle.far_word.specs.declared.refused.Refused.TheVariants.{Device as Failed, Memory}
 use Rattle.far_book.proofs.region.Calls.{put_put}
 use Rattle.far_core.specs.events.Naming.{is_dropped}
 use Rattle.far_core.specs.events.Offer as event
@@ -23,7 +24,7 @@ use Rattle.far_core.proofs.Put.{put_both, put_same}
 use Rattle.far_hand.specs.Finds.{Finds, marks_in}
 use Rattle.far_hand.specs.Quiet.{IsQuietNear}
 use Rattle.far_hand.proofs.Finding.{IsNearTo, finds_same}
-use Rattle.far_book.specs.book.Dealing.{goal, has_evac}
+use Rattle.far_book.specs.book.Dealing.{goal, has_evac, is_failure}
 use Rattle.far_book.specs.book.Fetching.{order_fetched}
 use Rattle.far_book.specs.book.Offering.{IsLookedAt, IsLowestEmpty, NoneEmpty, OffersCopy, offered, offered_of, with_ends}
 use Rattle.far_book.specs.book.Own.{own_part}
@@ -35,11 +36,12 @@ use Rattle.far_evac.specs.Beside.{AsksBeside, Dealing, Leaves, Offers, dealing_o
 use Rattle.far_evac.specs.BookStands.{GoesBeside, core_beside, fate_beside, known, order_beside, warmth_of}
 use Rattle.far_evac.specs.declared.evac.evacuating.Fate.TheVariants as fates
 use Rattle.far_evac.specs.Leaving.{AsksAs, GoesAway, LeavesBy, core_by, counted_as, fate_by, goes_near}
-use Rattle.far_evac.specs.Moment.{Moment, Tally}
+use Rattle.far_evac.specs.Moment.{Moment, Tally, objects_in}
 use Rattle.far_evac.specs.Walk.{Walked, Way, Drops, Goes, Moves, hot_way, way_of}
 use Rattle.far_evac.specs.WayLaws.{ObjectsGoBesideCopiers}
 use Rattle.far_evac.proofs.Asking.{asks_alike}
 use Rattle.far_evac.proofs.Bools.{neither}
+use Rattle.far_evac.proofs.Failures.{failure_alike}
 use Rattle.far_evac.proofs.Hands.{freed_seen, knows_forgotten, knows_more}
 use Rattle.far_evac.proofs.SendingOff.{drops, evicted_there, found, goal_is, later_found, moved_there, quiet_by, sent_cold}
 use Rattle.far_evac.proofs.Tours.{goes_when, moves_when}
@@ -317,3 +319,27 @@ pub deals_so : (w : Walked) (t : Moment) (tally : Tally) (p : ℕ) (fate : Fate)
     t.phase ≡ w.moment.phase → t.collection ≡ w.moment.collection → t.copying ≡ w.moment.copying → tally ≡ counted_as w.tally fate → KnowsWalked (dealt_by w p d) (record { moment = t; tally = tally })
 deals_so w t tally p fate (Leaves way) core order is phase held copies counted = dealt_way w t tally p fate way core order (some_is fate (fate_by way) is) phase held copies counted
 deals_so w t tally p fate (Offers j to) core order is phase held copies counted = absurd cc
+
+-- its copy is offered, and it isn't counted yet
+pub deals_offered : (w : Walked) (t : Moment) (p : ℕ) (d : Dealing) → Knows (core_beside w.moment.core p d) t.core → t.order ≡ order_beside w.moment.core w.moment.order d → None ≡ fate_beside d →
+    t.phase ≡ w.moment.phase → t.collection ≡ w.moment.collection → t.copying ≡ w.moment.copying → KnowsWalked (dealt_by w p d) (record { moment = t; tally = w.tally })
+deals_offered w t p (Leaves way) core order is phase held copies = absurd cc
+deals_offered w t p (Offers j to) core order is phase held copies = record {
+  moment = record { core = core; rest = λ i. record { core = t.core; order = order i; phase = phase i; collection = held i; copying = copies i } };
+  tally = refl;
+}
+
+-- ---- a refusal of the device is handed on
+pub known_fails : (r : Result Fate Refused) → IfErr r (λ why. (why ≡ Memory) ⊎ (why ≡ Failed)) → is_failure {A = Option Fate} (known r) ≡ is_failure {A = Fate} r
+known_fails (Ok fate) is = refl
+known_fails (Err why) is = failure_alike (Option Fate) Fate why is
+
+pub counted_one : (t : Tally) (fate : Fate) → objects_in (counted_as t fate) ≤ objects_in t + 1
+counted_one t fates.Moved = omega arith
+counted_one t fates.Far = omega arith
+counted_one t fates.Dropped = omega arith
+
+pub freed_still : (t : Tally) (fate : Fate) → (counted_as t fate).freed ≡ t.freed
+freed_still t fates.Moved = refl
+freed_still t fates.Far = refl
+freed_still t fates.Dropped = refl

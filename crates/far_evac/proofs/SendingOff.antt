@@ -2,7 +2,8 @@
 use Rattle.std.proofs.Common.{◌≡◌, ℕ, ◌*◌, ◌/◌, ◌<◌, ◌||◌, ◌&&◌, Bool, true, false, cond, eqb, Option, Some, None, Result, Ok, Err, List, [], ◌∷◌, ◌++◌, IfOk, IfErr, IfSome, IfNone, MatchOption, arith, ap, sym, refl, ◌∙◌, subst}
 use Rattle.std.proofs.lemmas.Bool.{eq-eqb, true≢false, false_from_ne_true, or_parts}
 use Rattle.far_word.specs.declared.pointer.Place.{Place}
-use Rattle.far_word.specs.declared.pointer.PtrWord.TheVariants.{Near, Far}
+use Rattle.far_word.specs.declared.pointer.PtrWord.TheVariants.{Free, Near, Far}
+use Rattle.far_word.specs.declared.pointer.PtrWord.{PtrWord}
 use Rattle.far_word.specs.declared.refused.Refused.{Refused}
 use Rattle.far_word.specs.declared.sizes.TheConstants.{CELLS}
 use Rattle.far_word.specs.Pointer.{IsPtr, read_of}
@@ -14,26 +15,27 @@ use Rattle.far_core.specs.state.Room.{room}
 use Rattle.far_core.specs.state.State.{State}
 use Rattle.far_core.proofs.Copied.{NoCopy}
 use Rattle.far_core.proofs.Put.{put_same}
-use Rattle.far_hand.specs.Finds.{Finds, marks_in}
+use Rattle.far_hand.specs.Finds.{Finds, body_of, marks_in}
 use Rattle.far_book.specs.book.Dealing.{IsRetired, IsSeen, goal, has_evac, moved_now, order_moved, MovedBy}
 use Rattle.far_hand.specs.Quiet.{IsQuietNear}
-use Rattle.far_book.specs.book.Effects.{evicted, moved, order_after, stayed, with_free_cell}
+use Rattle.far_book.specs.book.Effects.{evicted, moved, order_after, retired, stayed, with_free_cell}
 use Rattle.far_book.specs.book.Evicting.{GoesFar}
 use Rattle.far_book.specs.book.Own.{own_part}
 use Rattle.far_book.specs.book.Renaming.{seen}
 use Rattle.far_book.specs.book.SealedLogs.{KeepsSealed}
-use Rattle.far_hand.proofs.Finding.{IsNearTo, finds_more, near_found}
+use Rattle.far_hand.proofs.Finding.{IsNearTo, finds_more, finds_same, near_found}
 use Rattle.far_hand.proofs.RoundSteps.{quiet_seen}
 use Rattle.far_book.proofs.region.Calls.{put_put}
 use Rattle.far_book.proofs.region.Evictions.{evicted_is}
 use Rattle.far_book.proofs.region.Moved.{drop_of, evac_of, goal_there, no_copy_in_room}
+use Rattle.far_book.proofs.region.Retires.{retired_is}
 use Rattle.far_book.proofs.region.SealedKept.{sealed_logs_kept}
 use Rattle.far_evac.specs.declared.evac.evacuating.Fate.{Fate}
 use Rattle.far_evac.specs.declared.evac.evacuating.Fate.TheVariants as fates
 use Rattle.far_evac.specs.declared.phase.Phase.TheVariants.{Evacuating}
 use Rattle.far_evac.specs.AnyHand.{Knows}
 use Rattle.far_evac.specs.Asked.{IsToBeWritten}
-use Rattle.far_evac.specs.Leaving.{GoesAway, LeavesBy, core_by, fate_by, goes_near, near_fate, order_by}
+use Rattle.far_evac.specs.Leaving.{GoesAway, LeavesAs, LeavesBy, core_by, fate_by, goes_near, near_fate, order_by}
 use Rattle.far_evac.specs.Live.{live_in, live_among}
 use Rattle.far_evac.specs.Moment.{Moment}
 use Rattle.far_evac.specs.MomentLaw.{MomentLaw, has_risen}
@@ -100,7 +102,7 @@ module _ (s : State) (p : ℕ) (q : IsQuietNear s p) (law : Law (own_part s)) (e
     pub owed_cold : goes_near (read_of w) ≡ false → (still : Type 0) → (still → w ≡ s.cell p) → (t : State) → is_dirty (read_of (t.cell p)) ≡ true → IsToBeWritten still s t p
     owed_cold h still exact t dirty = record { word = w; found = finds; goes = cold h; dirty = dirty; exact = exact }
 
-    cold_alive : goes_near (read_of w) ≡ false → is_dropped (read_of w) ≡ false
+    pub cold_alive : goes_near (read_of w) ≡ false → is_dropped (read_of w) ≡ false
     cold_alive h = ap is_dropped found.near ∙ (or_parts found.marks.dropped found.marks.hot (sym (ap goes_near found.near) ∙ h)).0
 
     hot : goes_near (read_of w) ≡ true → is_dropped (read_of w) ≡ false → way_of s (read_of w) ≡ hot_one
@@ -236,6 +238,62 @@ quiet_still s t p h q =
     let r = quiet_seen s p h.word h.found q in
     subst (λ (x : State). IsQuietNear x p) (sym h.leads) record { len = r.len; ds = r.ds; place = r.place; marks = r.marks; near = r.near; quiet = r.quiet }
 
+-- the cell then, and its EVAC
+pub cell_then : (s t : State) (p : ℕ) (h : IsSeen s t p) → t.cell p ≡ h.word
+cell_then s t p h = ap (λ (x : State). x.cell p) h.leads ∙ put_same s.cell p h.word p refl
+
+pub evac_still : (s t : State) (p : ℕ) → IsSeen s t p → has_evac (read_of (s.cell p)) ≡ true → has_evac (read_of (t.cell p)) ≡ true
+evac_still s t p h evac =
+    ap (λ w. has_evac (read_of w)) (cell_then s t p h) ∙ sym (evac_body (read_of h.word)) ∙ ap has_evac h.found.body ∙ evac_body (read_of (s.cell p)) ∙ evac where
+      evac_body : (o : Option PtrWord) → has_evac (body_of o) ≡ has_evac o
+      evac_body None = refl
+      evac_body (Some Free) = refl
+      evac_body (Some (Near len ds place marks)) = refl
+      evac_body (Some (Far len ds marks)) = refl
+
+-- ---- where no word changes but by this: the cell says how it leaves, u is that state still, and t is where it ends
+module _ (s : State) (p : ℕ) (q : IsQuietNear s p) (law : Law (own_part s)) (evac : has_evac (read_of (s.cell p)) ≡ true) (u : State) (same : u ≡ s) (t : State) (order : List ℕ) where
+  abbrev cell : ℕ
+  cell = s.cell p
+
+  goes_so : way_of s (read_of cell) ≡ Goes → (after : List ℕ) → after ≡ order → (fate : Fate) → (fate ≡ fates.Far) × (t ≡ evicted u p) → LeavesAs s order t after p cell fate
+  goes_so way after sealed fate went = record {
+    core = went.1 ∙ ap (λ (x : State). evicted x p) same ∙ sym (ap (core_by s p) way);
+    sealed = sealed ∙ sym (ap (order_by s order) way);
+    is = went.0 ∙ sym (ap fate_by way);
+  }
+
+  pub cold_exactly : goes_near (read_of cell) ≡ false → (after : List ℕ) → after ≡ order → (fate : Fate) → (fate ≡ fates.Far) × (t ≡ evicted u p) → LeavesAs s order t after p cell fate
+  cold_exactly h = goes_so (cold s p q law evac cell (finds_same cell) h)
+
+  -- what is known of the cell in that state
+  undropped : (is_dropped (read_of (u.cell p)) ≡ true → ⊥) → is_dropped (read_of cell) ≡ false
+  undropped never = false_from_ne_true (is_dropped (read_of cell)) (λ d. never (ap (λ (x : State). is_dropped (read_of (x.cell p))) same ∙ d))
+
+  room_is : goal u p ≡ room s (size_of q.len) false
+  room_is = ap (λ (x : State). goal x p) same ∙ goal_there s p q q.len q.ds q.place q.marks q.near (wanted s p q law evac)
+
+  pub away_exactly : goes_near (read_of cell) ≡ true → (is_dropped (read_of (u.cell p)) ≡ true → ⊥) → goal u p ≡ None → (after : List ℕ) → after ≡ order → (fate : Fate) → (fate ≡ fates.Far) × (t ≡ evicted u p) →
+      LeavesAs s order t after p cell fate
+  away_exactly near never none = goes_so (hot s p q law evac cell (finds_same cell) near (undropped never) ∙ ap hot_way (sym room_is ∙ none))
+
+  pub there_exactly : (still : Type 0) → still → goes_near (read_of cell) ≡ true → (after mid : List ℕ) → mid ≡ order → (result : Result (Option Place) Refused) (o : Option Place) → result ≡ Ok o → (is_dropped (read_of (u.cell p)) ≡ true → result ≡ Ok None) → IfSome o (λ place. goal u p ≡ Some place) →
+      IfSome o (λ place. t ≡ moved_now u p place) → IfNone o (IsRetired still u t p) → MatchOption o (after ≡ mid) (λ place. after ≡ order_moved u p mid place) → LeavesAs s order t after p cell (near_fate o)
+  there_exactly still so near after mid first result (Some place) made asked to moves gone sealed =
+      let never : is_dropped (read_of (u.cell p)) ≡ true → ⊥ = λ d. let odd : Ok (Some place) ≡ Ok None = sym made ∙ asked d in absurd cc in
+      let way : way_of s (read_of cell) ≡ Moves place = hot s p q law evac cell (finds_same cell) near (undropped never) ∙ ap hot_way (sym room_is ∙ to) in record {
+        core = moves ∙ ap (λ (x : State). moved_now x p place) same ∙ ap (λ b. cond b (moved s p place) (stayed s p)) evac ∙ sym (ap (core_by s p) way);
+        sealed = sealed ∙ ap (λ (x : State). order_moved x p mid place) same ∙ ap (λ b. cond b (order_after s mid place) mid) evac ∙ ap (λ (o : List ℕ). order_after s o place) first ∙ sym (ap (order_by s order) way);
+        is = sym (ap fate_by way);
+      }
+  there_exactly still so near after mid first result None made asked to moves gone sealed =
+      let d : is_dropped (read_of cell) ≡ true = sym (ap (λ (x : State). is_dropped (read_of (x.cell p))) same) ∙ gone.asked so in
+      let way : way_of s (read_of cell) ≡ Drops = drops s p q law evac cell (finds_same cell) d in record {
+        core = gone.exact so ∙ ap (λ (x : State). retired x p) same ∙ retired_is s p d ∙ sym (ap (core_by s p) way);
+        sealed = sealed ∙ first ∙ sym (ap (order_by s order) way);
+        is = sym (ap fate_by way);
+      }
+
 -- ---- what is known where nothing was done
 pub seen_known : (s t : State) (p : ℕ) → IsSeen s t p → Law (own_part t) → Knows s t
 seen_known s t p h law =
@@ -260,6 +318,10 @@ err_all (Err why) f h g k = f why h g k
 pub err_given : {A B : Type 0} (Given : Type 0) (P : B → Type 0) → (result : Result A B) → (Given → IfErr result P) → IfErr result (λ x. Given → P x)
 err_given Given P (Ok x) h = tt
 err_given Given P (Err why) h = h
+
+pub err_any : {A B : Type 0} {P : B → Type 0} → (result : Result A B) → ((x : B) → P x) → IfErr result P
+err_any (Ok x) f = tt
+err_any (Err why) f = f why
 
 -- an answer that was refused is no other
 pub no_answer : {A : Type 0} {P : Type 0} → (result : Result A Refused) (why : Refused) (x : A) → result ≡ Err why → (P → result ≡ Ok x) → P → ⊥

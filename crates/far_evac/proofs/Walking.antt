@@ -30,6 +30,9 @@ among_front held l ls e = dropped_among held 0 l ls e
 pub found_moment : (m n : Moment) (t : State) (order : List ℕ) → n ≡ m → Knows n.core t → order ≡ n.order → KnowsMoment m (record n { core = t; order = order })
 found_moment m n t order is knows same = subst (λ x. KnowsMoment x (record n { core = t; order = order })) is record { core = knows; rest = λ i. record n { core = t; order = same i } }
 
+pub found_exactly : (m n : Moment) (t : State) (order : List ℕ) → n ≡ m → t ≡ n.core → order ≡ n.order → record n { core = t; order = order } ≡ m
+found_exactly m n t order is core same = (λ i. record n { core = core i; order = same i }) ∙ is
+
 -- ---- the log in front
 pub drops_front : (r : Round) → r.phase ≡ Evacuating → (l : ℕ) (ls : List ℕ) → collection_in r ≡ l ∷ ls → drop r.index r.chosen ≡ l ∷ ls
 drops_front r walks l ls front = sym (ap (λ phase. collection_of phase r.chosen r.index) walks) ∙ front

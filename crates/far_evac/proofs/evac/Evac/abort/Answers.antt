@@ -26,8 +26,8 @@ returns g c = record {
       c.unmark_logs.ensures.known c.recall.ensures.round c.recall.ensures.order c.recall.ensures.alone c.recall.ensures.beside;
   exact = λ still. gives_exactly g.N.Near.view c.args.self.now c.recall.new.self _ (left g c) c.self-2.view_is _ c.first_of_collection-first.ensures.collection c.unmark_logs.ensures.order refl refl refl
       (c.unmark_logs.ensures.exact still) (c.recall.ensures.alone (sym c.recall.ensures.round.2 ∙ sym (ap (λ (e : EvacOf g.row.N.Denot g.row.D.Denot). e.copying) c.self-2.view_is) ∙ c.self-2.invariant.exact still));
-  device = search rules;
+  device = c.unmark_logs.ensures.device ∙ ap (λ (e : EvacOf g.row.N.Denot g.row.D.Denot). e.book.device) c.self-2.view_is ∙ c.recall.ensures.device;
   running = search rules;
-  refused = search rules;
-  unchanged = search rules;
+  refused = tt;
+  unchanged = tt;
 }

@@ -1,10 +1,15 @@
 use Rattle.std.proofs.Common.{◌∙◌, ap, sym, refl, subst}
-use Rattle.std.specs.Prelude.{Err}
+use Rattle.std.specs.Prelude.{Bool, Err, false}
 use Rattle.far_word.specs.Pointer.{read_of}
+use Rattle.far_device.specs.Following.{Follows, other_than}
 use Rattle.far_core.specs.state.Law.{Law}
 use Rattle.far_book.specs.book.Asking.{AsksToEvict}
+use Rattle.far_book.specs.book.Dealing.{is_failure}
 use Rattle.far_book.specs.book.Own.{own_part}
+use Rattle.far_evac.specs.declared.answers.Progress.{Progress}
+use Rattle.far_evac.specs.declared.evac.evacuating.Fate.{Fate}
 use Rattle.far_evac.specs.declared.phase.Phase.TheVariants.{Evacuating}
+use Rattle.far_evac.specs.AnyHand.{Knows}
 use Rattle.far_evac.specs.Asked.{IsToBeWritten, SparesClean}
 use Rattle.far_evac.specs.Cursor.{IsNextLeaving}
 use Rattle.far_evac.specs.EvacOf.{EvacOf, moment}
@@ -15,6 +20,9 @@ use Rattle.far_evac.specs.Ready.{Ready}
 use Rattle.far_evac.specs.Standing.{collection_in}
 use Rattle.far_evac.specs.Walk.{way_of}
 use Rattle.far_evac.proofs.Asking.{asks_alike}
+use Rattle.far_evac.proofs.BesideDealt.{freed_still}
+use Rattle.far_evac.proofs.Failures.{failure_alike}
+use Rattle.far_evac.proofs.HandKept.{since_evac}
 use Rattle.far_evac.proofs.HeldJobs.{jobs_kept}
 use Rattle.far_evac.proofs.Readiness.{risen_is_ready}
 use Rattle.far_evac.proofs.SendingOff.{Wanted, first_wanted}
@@ -100,3 +108,57 @@ returns-in-Ok-clause-unasked g c = λ still goes.
     (c.in-Ok.ensures.exact still) in
     subst (λ (e : EvacOf g.row.N.Denot g.row.D.Denot). SparesClean g.row.D.Denot (view e.book.near) p e.book.device c.send_off.new.book.device) c.self.view_is
     (c.in-Ok.ensures.unasked still (leaves.is ∙ ap fate_by goes))
+
+-- ---- what stays, and what is handed on
+pub count-requires : goal.count-requires
+count-requires g c = record { room = c.requires.room }
+
+pub returns-in-Ok-clause-came : goal.returns-in-Ok-clause-came
+returns-in-Ok-clause-came g c = since_evac c.self.view_is c.send_off.ensures.came
+
+pub returns-in-Ok-clause-round : goal.returns-in-Ok-clause-round
+returns-in-Ok-clause-round g c = (ap (λ (e : EvacOf g.row.N.Denot g.row.D.Denot). e.phase) c.self.view_is, ap (λ (e : EvacOf g.row.N.Denot g.row.D.Denot). e.collection) c.self.view_is, ap (λ (e : EvacOf g.row.N.Denot g.row.D.Denot). e.copying) c.self.view_is)
+
+pub returns-in-Ok-clause-rest : goal.returns-in-Ok-clause-rest
+returns-in-Ok-clause-rest g c = (ap (λ (q : Progress). q.freed) c.count.ensures ∙ freed_still (tally_of c.args.progress.now) c.in-Ok.fate, ap (λ (q : Progress). q.done) c.count.ensures)
+
+pub returns-in-Ok-clause-follows : goal.returns-in-Ok-clause-follows
+returns-in-Ok-clause-follows g c =
+    subst (λ (e : EvacOf g.row.N.Denot g.row.D.Denot). Follows g.D.Device.contents g.D.Device.honest g.D.Device.faults g.D.Device.fails_at_most (other_than c.args.span.p) false e.book.device c.send_off.new.book.device) c.self.view_is c.in-Ok.ensures.follows
+
+pub returns-in-Err-clause-came : goal.returns-in-Err-clause-came
+returns-in-Err-clause-came g c = since_evac c.self.view_is c.send_off.ensures.came
+
+pub returns-in-Err-clause-kept : goal.returns-in-Err-clause-kept
+returns-in-Err-clause-kept g c =
+    let t = g.N.Near.view c.send_off.new.book.near in
+    let order = c.in-Err.ensures.order ∙ ap (λ (e : EvacOf g.row.N.Denot g.row.D.Denot). e.book.order) c.self.view_is in
+    let phase = ap (λ (e : EvacOf g.row.N.Denot g.row.D.Denot). e.phase) c.self.view_is in
+    let collection = ap (λ (e : EvacOf g.row.N.Denot g.row.D.Denot). e.collection) c.self.view_is in
+    let copying = ap (λ (e : EvacOf g.row.N.Denot g.row.D.Denot). e.copying) c.self.view_is in
+    record {
+      core = subst (λ (e : EvacOf g.row.N.Denot g.row.D.Denot). Knows (g.N.Near.view e.book.near) t) c.self.view_is c.in-Err.ensures.kept;
+      rest = λ i. record { core = t; order = order i; phase = phase i; collection = collection i; copying = copying i };
+    }
+
+pub returns-in-Err-clause-same : goal.returns-in-Err-clause-same
+returns-in-Err-clause-same g c still =
+    let core = c.in-Err.ensures.same still ∙ ap (λ (e : EvacOf g.row.N.Denot g.row.D.Denot). g.N.Near.view e.book.near) c.self.view_is in
+    let order = c.in-Err.ensures.order ∙ ap (λ (e : EvacOf g.row.N.Denot g.row.D.Denot). e.book.order) c.self.view_is in
+    let phase = ap (λ (e : EvacOf g.row.N.Denot g.row.D.Denot). e.phase) c.self.view_is in
+    let collection = ap (λ (e : EvacOf g.row.N.Denot g.row.D.Denot). e.collection) c.self.view_is in
+    let copying = ap (λ (e : EvacOf g.row.N.Denot g.row.D.Denot). e.copying) c.self.view_is in
+    λ i. record { core = core i; order = order i; phase = phase i; collection = collection i; copying = copying i }
+
+pub returns-in-Err-clause-round : goal.returns-in-Err-clause-round
+returns-in-Err-clause-round g c = (ap (λ (e : EvacOf g.row.N.Denot g.row.D.Denot). e.phase) c.self.view_is, ap (λ (e : EvacOf g.row.N.Denot g.row.D.Denot). e.collection) c.self.view_is, ap (λ (e : EvacOf g.row.N.Denot g.row.D.Denot). e.copying) c.self.view_is)
+
+pub returns-in-Err-clause-follows : goal.returns-in-Err-clause-follows
+returns-in-Err-clause-follows g c =
+    subst (λ (fault : Bool). Follows g.D.Device.contents g.D.Device.honest g.D.Device.faults g.D.Device.fails_at_most (other_than c.args.span.p) fault c.args.self.now.book.device c.send_off.new.book.device)
+    (failure_alike Fate (Unit {0}) c.in-Err.why c.in-Err.ensures.why)
+    (subst (λ (e : EvacOf g.row.N.Denot g.row.D.Denot). Follows g.D.Device.contents g.D.Device.honest g.D.Device.faults g.D.Device.fails_at_most (other_than c.args.span.p) (is_failure {A = Fate} (Err c.in-Err.why)) e.book.device c.send_off.new.book.device) c.self.view_is
+    c.in-Err.ensures.follows)
+
+pub returns-in-Err-clause-why : goal.returns-in-Err-clause-why
+returns-in-Err-clause-why g c = c.in-Err.ensures.why

@@ -194,6 +194,18 @@ returns-in-Fails-clause-follows g c =
     followed g (goal.at.returns-in-Fails-clause-follows g c).After-keeps_law-3 (is_failure {A = Bool} (Err c.in-Fails.why))
     (ap is_failed at ∙ failure_alike (Unit {0}) Bool c.in-Fails.why (c.walk_logs-end.ensures.why c.in-Fails.field-0 c.in-Fails.why at))
 
+pub returns-in-Fails-clause-why : goal.returns-in-Fails-clause-why
+returns-in-Fails-clause-why g c = c.walk_logs-end.ensures.why c.in-Fails.field-0 c.in-Fails.why (ap end_of c.in-Fails.is)
+
+pub returns-in-Fails-clause-done : goal.returns-in-Fails-clause-done
+returns-in-Fails-clause-done g c = c.walk_logs-end.ensures.done ∙ ap (λ (p : Progress). p.done) c.requires.begun
+
+pub returns-in-Fails-clause-copying : goal.returns-in-Fails-clause-copying
+returns-in-Fails-clause-copying g c = copies g (goal.at.returns-in-Fails-clause-copying g c).After-keeps_law-3
+
+pub returns-in-Fails-clause-bounded : goal.returns-in-Fails-clause-bounded
+returns-in-Fails-clause-bounded g c = bounded g (goal.at.returns-in-Fails-clause-bounded g c).After-keeps_law-3
+
 -- ---- none was
 pub invariant_of-self-2 : goal.invariant_of-self-2
 invariant_of-self-2 g c =

@@ -1,15 +1,16 @@
-use Rattle.std.proofs.Common.{◌≡◌, ◌+◌, ◌<◌, ◌≤◌, ◌∙◌, ◌∷◌, [], length, arith, ap, sym, subst}
+use Rattle.std.proofs.Common.{◌≡◌, ◌+◌, ◌<◌, ◌≤◌, ◌∙◌, ◌∷◌, [], cond, length, arith, ap, refl, sym, subst}
 use Rattle.std.proofs.lemmas.Bool.Decides.{nat_tests}
 use Rattle.far_book.specs.book.Releasing.{order_without, released}
 use Rattle.far_core.specs.events.Get.{IsUncopied, IsVacant}
 use Rattle.far_evac.specs.AnyHand.{Knows}
 use Rattle.far_evac.specs.EvacOf.{EvacOf}
-use Rattle.far_evac.specs.Live.{live_in}
+use Rattle.far_evac.specs.Live.{is_empty, live_in}
 use Rattle.far_evac.specs.Standing.{collection_in}
-use Rattle.far_evac.specs.declared.phase.Phase.TheVariants.{Evacuating}
+use Rattle.far_evac.specs.declared.phase.Phase.TheVariants.{Evacuating, Idle}
 use Rattle.far_evac.proofs.GivingBack.{ends, given_known, goes_on, held_next, held_then, jobs_end, jobs_on, last_held, more_held}
+use Rattle.far_evac.proofs.HandKept.{since_evac}
 use Rattle.far_evac.proofs.HeldJobs.{none_copied}
-use Rattle.far_evac.proofs.Walking.{front_range, front_vacant}
+use Rattle.far_evac.proofs.Walking.{front_range, front_sealed, front_vacant}
 use Rattle.far_evac.proofs.evac.Evac.give_back.Given.{Over}
 use Rattle.far_evac.proofs.evac.Evac.give_back.Goals.{After-keeps_law, After-keeps_law-2}
 use Rattle.far_evac.proofs.evac.Evac.give_back.Goals as goal
@@ -113,3 +114,39 @@ pub returns-else-self-len-clause-collection : goal.returns-else-self-len-clause-
 returns-else-self-len-clause-collection g c =
     let h = (goal.at.returns-else-self-len-clause-collection g c).After-keeps_law in
     c.requires.front.1 ∙ ap (λ ls. c.args.log ∷ ls) (sym (held_then c.self.inside.round (walks g h) c.args.log c.requires.front.0 (held g h)))
+
+pub release-requires-clause-sealed : goal.release-requires-clause-sealed
+release-requires-clause-sealed g c =
+    let h = (goal.at.release-requires-clause-sealed g c).After-keeps_law in
+    front_sealed (g.N.Near.view c.self.inside.book.near) c.self.inside.round c.self.invariant.round c.keeps_law.ensures.law (walks g h) c.args.log c.requires.front.0 (held g h)
+
+-- ---- what is handed on
+pub returns-then-self-len-clause-came : goal.returns-then-self-len-clause-came
+returns-then-self-len-clause-came g c = since_evac c.self.view_is c.release.ensures.came
+
+pub returns-then-self-len-clause-copying : goal.returns-then-self-len-clause-copying
+returns-then-self-len-clause-copying g c = ap (λ (e : EvacOf g.row.N.Denot g.row.D.Denot). e.copying) c.self.view_is ∙ c.requires.alone
+
+pub returns-then-self-len-clause-ends : goal.returns-then-self-len-clause-ends
+returns-then-self-len-clause-ends g c = refl
+
+pub returns-then-self-len-clause-device : goal.returns-then-self-len-clause-device
+returns-then-self-len-clause-device g c = c.release.ensures.device ∙ ap (λ (e : EvacOf g.row.N.Denot g.row.D.Denot). e.book.device) c.self.view_is
+
+pub returns-else-self-len-clause-came : goal.returns-else-self-len-clause-came
+returns-else-self-len-clause-came g c = since_evac c.self.view_is c.release.ensures.came
+
+pub returns-else-self-len-clause-copying : goal.returns-else-self-len-clause-copying
+returns-else-self-len-clause-copying g c = ap (λ (e : EvacOf g.row.N.Denot g.row.D.Denot). e.copying) c.self.view_is ∙ c.requires.alone
+
+pub returns-else-self-len-clause-ends : goal.returns-else-self-len-clause-ends
+returns-else-self-len-clause-ends g c =
+    let h = (goal.at.returns-else-self-len-clause-ends g c).After-keeps_law in
+    let r = c.self.inside.round in
+    let most = (held_next r (walks g h) c.args.log c.requires.front.0 (held g h)).1 in
+    let some : r.index + 1 < length r.chosen = grind (arith, nat_tests, most, c.len.ensures, c.if-self-len.false) in
+    let more = ap is_empty (held_then r (walks g h) c.args.log c.requires.front.0 (held g h)) ∙ more_held r (walks g h) c.args.log c.requires.front.0 (held g h) some in
+    walks g h ∙ sym (ap (λ none. cond none Idle Evacuating) more)
+
+pub returns-else-self-len-clause-device : goal.returns-else-self-len-clause-device
+returns-else-self-len-clause-device g c = c.release.ensures.device ∙ ap (λ (e : EvacOf g.row.N.Denot g.row.D.Denot). e.book.device) c.self.view_is

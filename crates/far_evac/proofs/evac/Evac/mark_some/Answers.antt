@@ -21,7 +21,7 @@ returns-then-lacks_some g c = record {
   exact = λ still. let n = c.mark_up_to-count.ensures in
       marks_some_exactly (moment g.N.Near.view c.args.self.now) c.keeps_law.ensures.moment.collection_once (λ q. (c.keeps_law.ensures.law.cells.cell_read q).0) c.args.n
       n.known c.lacks_some.ensures.known (sym c.if-lacks_some.true ∙ c.lacks_some.ensures.found) (n.exact still) (c.lacks_some.ensures.exact still);
-  device = search rules;
+  device = c.lacks_some.ensures.device ∙ c.mark_up_to-count.ensures.device;
   marking = search rules;
   refused = tt;
   unchanged = tt;
@@ -38,7 +38,7 @@ returns g c = record {
   exact = λ still. let n = c.mark_up_to-count.ensures in
       marks_every_exactly (moment g.N.Near.view c.args.self.now) c.keeps_law.ensures.moment.collection_once (λ q. (c.keeps_law.ensures.law.cells.cell_read q).0) c.args.n
       n.known c.lacks_some.ensures.known (sym c.if-lacks_some.false ∙ c.lacks_some.ensures.found) (moment g.N.Near.view c.wait-epoch.new.self) (n.exact still) (c.lacks_some.ensures.exact still) (c.wait-epoch.ensures.exact still);
-  device = search rules;
+  device = c.wait-epoch.ensures.device ∙ c.lacks_some.ensures.device ∙ c.mark_up_to-count.ensures.device;
   marking = search rules;
   refused = tt;
   unchanged = tt;

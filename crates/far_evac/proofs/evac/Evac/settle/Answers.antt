@@ -1,12 +1,13 @@
-use Rattle.std.proofs.Common.{◌+◌, ◌∙◌, cond, length, arith, ap, sym, refl, subst}
+use Rattle.std.proofs.Common.{◌≡◌, ◌+◌, ◌∙◌, [], ℕ, List, cond, length, arith, ap, sym, refl, subst}
 use Rattle.far_hand.proofs.Closure.{no_call, then_came}
 use Rattle.far_evac.specs.declared.answers.Progress.{Progress}
 use Rattle.far_evac.specs.declared.phase.Phase.TheVariants as phase
 use Rattle.far_evac.specs.AnyHand.{KnowsWalked}
 use Rattle.far_evac.specs.Leaving.{standing}
-use Rattle.far_evac.specs.Moment.{Moment}
+use Rattle.far_evac.specs.Live.{is_empty}
+use Rattle.far_evac.specs.Moment.{Moment, Tally, tally_of}
 use Rattle.far_evac.specs.MomentLaw.{is_idle}
-use Rattle.far_evac.specs.Walk.{Walked, settled}
+use Rattle.far_evac.specs.Walk.{Walked, passed, settled}
 use Rattle.far_evac.proofs.LiveLists.{knows_live}
 use Rattle.far_evac.proofs.Settling.{front_left, front_stays, standing_known, step_exact, step_known, walked_known_more}
 use Rattle.far_evac.proofs.Walks.{walked_same}
@@ -77,3 +78,63 @@ returns-in-Some-first_in-clause-known g c =
 
 pub returns-in-Some-first_in-clause-came : goal.returns-in-Some-first_in-clause-came
 returns-in-Some-first_in-clause-came g c = then_came c.loop-log.invariant.came c.first_in.ensures.came
+
+-- where a walk stands at a moment
+abbrev stood : Tally → Moment → Walked
+stood tally m = record { moment = record m { phase = phase.Evacuating }; tally = tally }
+
+-- where no log is left, none can be given back
+settled_none : (w : Walked) → w.moment.collection ≡ [] → settled w ≡ w
+settled_none w none = ap (passed w) none ∙ (λ i. record w { moment = record w.moment { collection = (sym none) i } })
+
+-- ---- the first object that is left
+pub returns-in-Some-first_in-clause-exact : goal.returns-in-Some-first_in-clause-exact
+returns-in-Some-first_in-clause-exact g c still =
+    let w = standing g.N.Near.view c.loop-log.self c.loop-log.progress in
+    let first = c.in-Some-first_in.ensures.first in
+    let some = c.in-Some.ensures.some in
+    ap (stood (tally_of c.loop-log.progress)) (c.first_in.ensures.exact still) ∙ sym (front_stays w c.in-Some.log some.0 some.1 c.in-Some-first_in.first.span.p first.0 first.1) ∙ c.loop-log.invariant.exact still
+
+pub returns-in-Some-first_in-clause-ends : goal.returns-in-Some-first_in-clause-ends
+returns-in-Some-first_in-clause-ends g c =
+    let rest = c.first_in.ensures.known.rest in
+    ap (λ (m : Moment). m.phase) rest ∙ c.loop-log.invariant.ends ∙ ap (λ (held : List ℕ). cond (is_empty held) phase.Idle phase.Evacuating) (sym (ap (λ (m : Moment). m.collection) rest))
+
+pub returns-in-Some-first_in-clause-next : goal.returns-in-Some-first_in-clause-next
+returns-in-Some-first_in-clause-next g c = c.in-Some-first_in.ensures.next
+
+pub returns-in-Some-first_in-clause-cell : goal.returns-in-Some-first_in-clause-cell
+returns-in-Some-first_in-clause-cell g c = c.in-Some-first_in.ensures.cell
+
+pub returns-in-Some-first_in-clause-copying : goal.returns-in-Some-first_in-clause-copying
+returns-in-Some-first_in-clause-copying g c = ap (λ (m : Moment). m.copying) c.first_in.ensures.known.rest ∙ c.loop-log.invariant.alone ∙ sym c.requires.alone
+
+pub returns-in-Some-first_in-clause-freed : goal.returns-in-Some-first_in-clause-freed
+returns-in-Some-first_in-clause-freed g c =
+    ap (λ (m : Moment). c.loop-log.progress.freed + length m.collection) c.first_in.ensures.known.rest ∙ c.loop-log.invariant.freed
+
+pub returns-in-Some-first_in-clause-done : goal.returns-in-Some-first_in-clause-done
+returns-in-Some-first_in-clause-done g c = c.loop-log.invariant.done
+
+pub returns-in-Some-first_in-clause-device : goal.returns-in-Some-first_in-clause-device
+returns-in-Some-first_in-clause-device g c = c.first_in.ensures.device ∙ c.loop-log.invariant.device
+
+-- ---- no log is left
+pub returns : goal.returns
+returns g c =
+    let h = c.loop-log.invariant in
+    let w = standing g.N.Near.view c.loop-log.self c.loop-log.progress in
+    let none = c.in_default.ensures.none in record {
+      came = h.came;
+      known = subst (KnowsWalked (settled (standing g.N.Near.view c.args.self.now c.args.progress.now))) (settled_none w none) h.known;
+      exact = λ still. sym (settled_none w none) ∙ h.exact still;
+      ends = h.ends;
+      first = tt;
+      next = tt;
+      cell = tt;
+      none = none;
+      copying = h.alone ∙ sym c.requires.alone;
+      freed = h.freed;
+      done = h.done;
+      device = h.device;
+    }

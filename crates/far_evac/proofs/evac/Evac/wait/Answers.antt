@@ -1,9 +1,10 @@
-use Rattle.std.proofs.Common.{◌≡◌, ◌∙◌, ap, sym, subst, refl, []}
+use Rattle.std.proofs.Common.{◌≡◌, ◌∙◌, ◌+◌, ap, sym, subst, refl, []}
 use Rattle.far_evac.specs.EvacOf.{EvacOf, moment}
 use Rattle.far_evac.specs.Live.{lacking}
 use Rattle.far_evac.specs.Moment.{Moment}
 use Rattle.far_evac.specs.RoundSteps.{advanced}
 use Rattle.far_evac.specs.declared.phase.Phase.TheVariants.{Marking, Waiting}
+use Rattle.far_evac.proofs.HandKept.{since_evac}
 use Rattle.far_evac.proofs.MarkRuns.{jobs_wait, may_choose, rises_exactly, rises_known, waiting_held, waits_so}
 use Rattle.far_evac.proofs.MarkSteps.{knows_so, moment_so}
 use Rattle.far_evac.proofs.evac.Evac.wait.Given.{Over}
@@ -47,3 +48,12 @@ invariant_of-self g c =
       jobs = jobs_wait s r c.self.invariant.round marks c.set_of.result c.set_of.ensures t c.keeps_law-2.ensures.law c.in-Ok.ensures.kept c.keeps_law.ensures.law c.self.invariant.jobs;
       exact = c.self.invariant.exact;
     }
+
+pub returns-clause-came : goal.returns-clause-came
+returns-clause-came g c = since_evac c.self.view_is c.advance.ensures.came
+
+pub returns-clause-device : goal.returns-clause-device
+returns-clause-device g c = c.advance.ensures.device ∙ ap (λ (e : EvacOf g.row.N.Denot g.row.D.Denot). e.book.device) c.self.view_is
+
+pub returns-clause-epoch : goal.returns-clause-epoch
+returns-clause-epoch g c = c.in-Ok.ensures.epoch.0 ∙ ap (λ (e : EvacOf g.row.N.Denot g.row.D.Denot). (g.N.Near.view e.book.near).epoch + 1) c.self.view_is

@@ -1,22 +1,26 @@
-use Rattle.std.proofs.Common.{◌≡◌, ◌∙◌, ℕ, Bool, true, false, cond, is_some, ap, refl, subst, sym}
+use Rattle.std.proofs.Common.{◌≡◌, ◌∙◌, ◌*◌, ◌<◌, ℕ, Bool, Option, true, false, cond, is_some, ap, refl, subst, sym}
+use Rattle.far_word.specs.declared.sizes.TheConstants.{CELLS}
 use Rattle.far_word.specs.Pointer.{read_of}
+use Rattle.far_device.specs.Following.{Follows, other_than}
+use Rattle.far_device.proofs.Following.{follows_itself}
 use Rattle.far_core.specs.events.Naming.{is_dropped}
 use Rattle.far_core.specs.state.State.{State}
 use Rattle.far_hand.specs.Finds.{Finds}
 use Rattle.far_hand.proofs.Closure.{then_came}
 use Rattle.far_hand.proofs.Finding.{finds_is}
-use Rattle.far_book.specs.book.Dealing.{goal}
+use Rattle.far_book.specs.book.Dealing.{goal, is_failure}
 use Rattle.far_book.specs.book.Fetching.{order_fetched}
 use Rattle.far_book.specs.book.Offering.{OffersCopy}
 use Rattle.far_book.specs.book.Renaming.{seen}
 use Rattle.far_book.proofs.region.Renamings.{same_seen}
+use Rattle.far_evac.specs.declared.evac.evacuating.Fate.{Fate}
 use Rattle.far_evac.specs.declared.evac.beside.Warmth.TheVariants.{Cold, Dropped, Hot}
 use Rattle.far_evac.specs.BookStands.{warmth_of}
 use Rattle.far_evac.specs.Leaving.{LeavesBy}
-use Rattle.far_evac.proofs.Asking.{asked_before, finds_seen}
-use Rattle.far_evac.proofs.BesideDealt.{cold_beside, dropped_beside, evac_clear, hot_beside, known_err, known_ok, offers_beside, ok_two, quiet_clear}
+use Rattle.far_evac.proofs.Asking.{asked_before, finds_seen, refused_before}
+use Rattle.far_evac.proofs.BesideDealt.{cold_beside, dropped_beside, evac_clear, hot_beside, known_err, known_fails, known_ok, offers_beside, ok_two, quiet_clear}
 use Rattle.far_evac.proofs.Hands.{knows_more}
-use Rattle.far_evac.proofs.SendingOff.{err_map, evac_found, found_here, quiet_here}
+use Rattle.far_evac.proofs.SendingOff.{err_any, err_map, evac_found, found_here, quiet_here}
 use Rattle.far_evac.proofs.evac.beside.offer_or_leave.Goals as goal
 
 -- what a cell is known to have may be found there, and then nothing has changed
@@ -133,3 +137,95 @@ returns-else-offer-clause-kept g c =
     let look = c.offer.ensures.looked c.if-offer.false in
     known_err _ c.send_off-in-Hot.result c.known-in-Hot.result c.known-in-Hot.ensures
     (err_map c.send_off-in-Hot.result (λ _ kept. knows_more s v (g.N.Near.view c.send_off-in-Hot.new.book.near) (found_here s v p look.word look.found look.is) kept) c.send_off-in-Hot.ensures.kept)
+
+-- ---- what is asked of what is called
+pub send_far-requires-clause-pointer : goal.send_far-requires-clause-pointer
+send_far-requires-clause-pointer g c = c.requires.pointer
+
+pub send_far-requires-clause-cell : goal.send_far-requires-clause-cell
+send_far-requires-clause-cell g c = c.requires.cell
+
+pub send_off-requires-clause-pointer : goal.send_off-requires-clause-pointer
+send_off-requires-clause-pointer g c = c.requires.pointer
+
+pub send_off-requires-clause-cell : goal.send_off-requires-clause-cell
+send_off-requires-clause-cell g c = c.requires.cell
+
+pub offer-requires-clause-pointer : goal.offer-requires-clause-pointer
+offer-requires-clause-pointer g c = c.requires.pointer
+
+pub offer-requires-clause-clear : goal.offer-requires-clause-clear
+offer-requires-clause-clear g c = c.requires.clear
+
+pub send_off-requires-in-Hot-clause-pointer : goal.send_off-requires-in-Hot-clause-pointer
+send_off-requires-in-Hot-clause-pointer g c = subst (λ (x : State). c.args.pointer < CELLS * x.mutators) (sym (c.offer.ensures.looked c.if-offer.false).is) c.requires.pointer
+
+-- ---- a copy is offered
+pub returns-then-offer-clause-came : goal.returns-then-offer-clause-came
+returns-then-offer-clause-came g c = c.offer.ensures.came
+
+pub returns-then-offer-clause-follows : goal.returns-then-offer-clause-follows
+returns-then-offer-clause-follows g c =
+    subst (Follows g.D.Device.contents g.D.Device.honest g.D.Device.faults g.D.Device.fails_at_most (other_than c.args.pointer) false c.args.book.now.device) (sym c.offer.ensures.device)
+    (follows_itself g.D.Device.contents g.D.Device.honest g.D.Device.faults g.D.Device.fails_at_most (other_than c.args.pointer) c.args.book.now.device)
+
+-- ---- one that is cold
+pub returns-in-Cold-clause-came : goal.returns-in-Cold-clause-came
+returns-in-Cold-clause-came g c = c.send_far.ensures.came
+
+pub returns-in-Cold-clause-order : goal.returns-in-Cold-clause-order
+returns-in-Cold-clause-order g c = known_err _ c.send_far.result c.known.result c.known.ensures (err_any c.send_far.result (λ _. c.send_far.ensures.order))
+
+pub returns-in-Cold-clause-refused : goal.returns-in-Cold-clause-refused
+returns-in-Cold-clause-refused g c = known_err _ c.send_far.result c.known.result c.known.ensures c.send_far.ensures.refused
+
+pub returns-in-Cold-clause-follows : goal.returns-in-Cold-clause-follows
+returns-in-Cold-clause-follows g c =
+    subst (λ (fault : Bool). Follows g.D.Device.contents g.D.Device.honest g.D.Device.faults g.D.Device.fails_at_most (other_than c.args.pointer) fault c.args.book.now.device c.send_far.new.book.device)
+    (sym (ap (is_failure {A = Option Fate}) c.known.ensures ∙ known_fails c.send_far.result c.send_far.ensures.why)) c.send_far.ensures.follows
+
+pub returns-in-Cold-clause-why : goal.returns-in-Cold-clause-why
+returns-in-Cold-clause-why g c = known_err _ c.send_far.result c.known.result c.known.ensures c.send_far.ensures.why
+
+-- ---- one that its cell says is dropped
+pub returns-in-Dropped-clause-came : goal.returns-in-Dropped-clause-came
+returns-in-Dropped-clause-came g c = c.send_off.ensures.came
+
+pub returns-in-Dropped-clause-order : goal.returns-in-Dropped-clause-order
+returns-in-Dropped-clause-order g c = known_err _ c.send_off.result c.known-in-Dropped.result c.known-in-Dropped.ensures c.send_off.ensures.order
+
+pub returns-in-Dropped-clause-refused : goal.returns-in-Dropped-clause-refused
+returns-in-Dropped-clause-refused g c = known_err _ c.send_off.result c.known-in-Dropped.result c.known-in-Dropped.ensures c.send_off.ensures.refused
+
+pub returns-in-Dropped-clause-follows : goal.returns-in-Dropped-clause-follows
+returns-in-Dropped-clause-follows g c =
+    subst (λ (fault : Bool). Follows g.D.Device.contents g.D.Device.honest g.D.Device.faults g.D.Device.fails_at_most (other_than c.args.pointer) fault c.args.book.now.device c.send_off.new.book.device)
+    (sym (ap (is_failure {A = Option Fate}) c.known-in-Dropped.ensures ∙ known_fails c.send_off.result c.send_off.ensures.why)) c.send_off.ensures.follows
+
+pub returns-in-Dropped-clause-why : goal.returns-in-Dropped-clause-why
+returns-in-Dropped-clause-why g c = known_err _ c.send_off.result c.known-in-Dropped.result c.known-in-Dropped.ensures c.send_off.ensures.why
+
+-- ---- one that is hot, and can't be offered
+pub returns-else-offer-clause-order : goal.returns-else-offer-clause-order
+returns-else-offer-clause-order g c =
+    known_err _ c.send_off-in-Hot.result c.known-in-Hot.result c.known-in-Hot.ensures (err_map c.send_off-in-Hot.result (λ _ order. order ∙ c.offer.ensures.shut c.if-offer.false) c.send_off-in-Hot.ensures.order)
+
+pub returns-else-offer-clause-refused : goal.returns-else-offer-clause-refused
+returns-else-offer-clause-refused g c =
+    let s = g.N.Near.view c.args.book.now.near in
+    let v = g.N.Near.view c.offer.new.self.near in
+    let p = c.args.pointer in
+    let look = c.offer.ensures.looked c.if-offer.false in
+    known_err _ c.send_off-in-Hot.result c.known-in-Hot.result c.known-in-Hot.ensures
+    (err_map c.send_off-in-Hot.result (λ why asks. refused_before g.row.D.Denot g.D.Device.writes g.D.Device.lets_go s v p (finds_seen s v p look.word look.found look.is) (ap (λ (x : State). x.word) look.is)
+    c.args.book.now.device c.offer.new.self.device c.offer.ensures.device why c.send_off-in-Hot.new.book.device asks) c.send_off-in-Hot.ensures.refused)
+
+pub returns-else-offer-clause-follows : goal.returns-else-offer-clause-follows
+returns-else-offer-clause-follows g c =
+    subst (λ (fault : Bool). Follows g.D.Device.contents g.D.Device.honest g.D.Device.faults g.D.Device.fails_at_most (other_than c.args.pointer) fault c.args.book.now.device c.send_off-in-Hot.new.book.device)
+    (sym (ap (is_failure {A = Option Fate}) c.known-in-Hot.ensures ∙ known_fails c.send_off-in-Hot.result c.send_off-in-Hot.ensures.why))
+    (subst (λ (d : g.row.D.Denot). Follows g.D.Device.contents g.D.Device.honest g.D.Device.faults g.D.Device.fails_at_most (other_than c.args.pointer) (is_failure {A = Fate} c.send_off-in-Hot.result) d c.send_off-in-Hot.new.book.device)
+    c.offer.ensures.device c.send_off-in-Hot.ensures.follows)
+
+pub returns-else-offer-clause-why : goal.returns-else-offer-clause-why
+returns-else-offer-clause-why g c = known_err _ c.send_off-in-Hot.result c.known-in-Hot.result c.known-in-Hot.ensures c.send_off-in-Hot.ensures.why

@@ -1,18 +1,21 @@
-use Rattle.std.proofs.Common.{◌≡◌, ◌∙◌, ◌+◌, ◌-◌, ◌++◌, ◌∷◌, [], suc, false, arith, refl, sym, subst}
-use Rattle.far_device.specs.Following.{none_of, other_than}
+use Rattle.std.proofs.Common.{◌≡◌, ◌∙◌, ◌+◌, ◌-◌, ◌++◌, ◌∷◌, [], ℕ, suc, false, ap, arith, refl, sym, subst}
+use Rattle.far_device.specs.Following.{Follows, none_of, other_than}
 use Rattle.far_device.proofs.Following.{follows_itself, follows_on, follows_still}
 use Rattle.std.specs.Prelude.{Err}
 use Rattle.far_word.specs.Sizes.{size_of}
 use Rattle.far_hand.proofs.Closure.{no_call, then_came}
 use Rattle.far_book.specs.book.Dealing.{is_failure}
 use Rattle.far_book.specs.book.NextLive.{IsBoundary, live_from}
+use Rattle.far_word.specs.declared.refused.Refused.{Refused}
+use Rattle.far_evac.specs.declared.answers.Progress.{Progress}
 use Rattle.far_evac.specs.Beside.{AsksOnly, At, Before, Behind, RefusedOnly}
 use Rattle.far_evac.specs.BookStands.{stands}
 use Rattle.far_evac.specs.Live.{live_in, pointers_of}
+use Rattle.far_evac.specs.Moment.{objects_in, tally_of}
 use Rattle.far_evac.specs.Walk.{Walked}
 use Rattle.far_evac.proofs.BesideOver.{over_then, walked_same}
 use Rattle.far_evac.proofs.BesideSteps.{keeps_found, keeps_then}
-use Rattle.far_evac.proofs.BesideWalk.{Meets, alone_in, chosen_log, clear_there, ends_before, ends_refused, ends_walk, first_part, follows_one, meets_dealt, meets_job, next_parts, none_left, stands_known}
+use Rattle.far_evac.proofs.BesideWalk.{Meets, alone_in, chosen_log, clear_there, ends_before, ends_refused, ends_walk, first_part, follows_one, lies_at, meets_dealt, meets_job, next_parts, none_left, stands_known, why_at}
 use Rattle.far_evac.proofs.Fronts.{knows_cells}
 use Rattle.far_evac.proofs.Hands.{knows_more}
 use Rattle.far_evac.proofs.Standings.{at_start}
@@ -43,6 +46,19 @@ next_found-requires-clause-log g c =
     let h = c.loop-found.invariant in
     chosen_log (g.N.Near.view c.loop-found.book.near) h.law c.args.log (h.keeps.chosen c.args.log c.requires.chosen)
 
+pub next_found-requires-clause-begins : goal.next_found-requires-clause-begins
+next_found-requires-clause-begins g c = c.loop-found.invariant.begins
+
+pub has_job-requires : goal.has_job-requires
+has_job-requires g c = record { lies = lies_at (g.N.Near.view c.next_found.new.self.near) c.args.log c.in-Some.found.span c.in-Some.ensures.lies }
+
+-- where a walk ends that isn't refused
+before_no : (p : ℕ) (why : Refused) → Before ≡ At p why → ⊥
+before_no p why e = cc
+
+behind_no : (p : ℕ) (why : Refused) → Behind ≡ At p why → ⊥
+behind_no p why e = cc
+
 -- ---- as many as were asked for were dealt with
 pub returns-then-left-eq0-clause-came : goal.returns-then-left-eq0-clause-came
 returns-then-left-eq0-clause-came g c = then_came c.loop-found.invariant.came c.next_found.ensures.came
@@ -72,7 +88,27 @@ returns-then-left-eq0-clause-keeps g c =
     let t = g.N.Near.view c.next_found.new.self.near in
     keeps_then (g.N.Near.view c.args.book.now.near) s t c.args.log c.loop-found.invariant.keeps (keeps_found s t c.args.log (knows_cells s t c.in-Some.ensures.found c.in-Some.ensures.kept))
 
+pub returns-then-left-eq0-clause-counted : goal.returns-then-left-eq0-clause-counted
+returns-then-left-eq0-clause-counted g c = let h = c.loop-found.invariant in omega (arith, h.counted, h.within)
+
+pub returns-then-left-eq0-clause-rest : goal.returns-then-left-eq0-clause-rest
+returns-then-left-eq0-clause-rest g c = c.loop-found.invariant.rest
+
+pub returns-then-left-eq0-clause-why : goal.returns-then-left-eq0-clause-why
+returns-then-left-eq0-clause-why g c p why e = absurd (before_no p why e)
+
+pub returns-then-left-eq0-clause-follows : goal.returns-then-left-eq0-clause-follows
+returns-then-left-eq0-clause-follows g c =
+    subst (Follows g.D.Device.contents g.D.Device.honest g.D.Device.faults g.D.Device.fails_at_most (none_of (live_in (g.N.Near.view c.args.book.now.near) c.args.log)) false c.args.book.now.device)
+    (sym c.next_found.ensures.device) c.loop-found.invariant.follows
+
 -- ---- it is dealt with
+pub deal_beside-requires-clause-pointer : goal.deal_beside-requires-clause-pointer
+deal_beside-requires-clause-pointer g c = c.in-Some.ensures.lies.pointer
+
+pub deal_beside-requires-clause-cell : goal.deal_beside-requires-clause-cell
+deal_beside-requires-clause-cell g c = c.in-Some.ensures.cell
+
 pub deal_beside-requires-clause-clear : goal.deal_beside-requires-clause-clear
 deal_beside-requires-clause-clear g c =
     let s = g.N.Near.view c.loop-found.book.near in
@@ -127,6 +163,18 @@ returns-in-Err-clause-follows g c =
     follows_one g.D.Device.contents g.D.Device.honest g.D.Device.faults g.D.Device.fails_at_most all h.done c.in-Some.found.span.p (pointers_of (live_from s c.args.log past)) (is_failure {A = Unit {0}} (Err c.in-Err.why))
     c.args.book.now.device c.loop-found.book.device c.next_found.new.self.device c.deal_beside.new.book.device
     (first_part all h.done (live_from s c.args.log c.loop-found.at) c.in-Some.found.span (live_from s c.args.log past) h.parts c.in-Some.ensures.first) c.in-Some.ensures.device h.follows c.in-Err.ensures.follows
+
+pub returns-in-Err-clause-counted : goal.returns-in-Err-clause-counted
+returns-in-Err-clause-counted g c =
+    let h = c.loop-found.invariant in
+    let same = ap (λ (q : Progress). objects_in (tally_of q)) c.in-Err.ensures.uncounted.0 in
+    omega (arith, h.counted, h.within, same)
+
+pub returns-in-Err-clause-rest : goal.returns-in-Err-clause-rest
+returns-in-Err-clause-rest g c = let h = c.loop-found.invariant in let e = c.deal_beside.ensures in (e.rest.0 ∙ h.rest.0, e.rest.1 ∙ h.rest.1)
+
+pub returns-in-Err-clause-why : goal.returns-in-Err-clause-why
+returns-in-Err-clause-why g c p why e = why_at c.in-Some.found.span.p p c.in-Err.why why c.in-Err.ensures.why e
 
 -- ---- the next one
 pub loop-found-smaller : goal.loop-found-smaller
@@ -211,3 +259,17 @@ returns-clause-keeps g c =
     let s = g.N.Near.view c.loop-found.book.near in
     let t = g.N.Near.view c.next_found.new.self.near in
     keeps_then (g.N.Near.view c.args.book.now.near) s t c.args.log c.loop-found.invariant.keeps (keeps_found s t c.args.log (knows_cells s t c.in_default.ensures.found c.in_default.ensures.kept))
+
+pub returns-clause-counted : goal.returns-clause-counted
+returns-clause-counted g c = let h = c.loop-found.invariant in omega (arith, h.counted, h.within)
+
+pub returns-clause-rest : goal.returns-clause-rest
+returns-clause-rest g c = c.loop-found.invariant.rest
+
+pub returns-clause-why : goal.returns-clause-why
+returns-clause-why g c p why e = absurd (behind_no p why e)
+
+pub returns-clause-follows : goal.returns-clause-follows
+returns-clause-follows g c =
+    subst (Follows g.D.Device.contents g.D.Device.honest g.D.Device.faults g.D.Device.fails_at_most (none_of (live_in (g.N.Near.view c.args.book.now.near) c.args.log)) false c.args.book.now.device)
+    (sym c.next_found.ensures.device) c.loop-found.invariant.follows

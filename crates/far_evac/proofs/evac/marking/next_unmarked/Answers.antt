@@ -1,10 +1,11 @@
-use Rattle.std.proofs.Common.{◌+◌, ◌∙◌, sym, subst, arith}
+use Rattle.std.proofs.Common.{◌+◌, ◌∙◌, sym, subst, refl, arith}
 use Rattle.far_book.specs.book.NextLive.{IsBoundary}
-use Rattle.far_hand.proofs.Closure.{then_came}
+use Rattle.far_hand.proofs.Closure.{no_call, then_came}
 use Rattle.far_evac.specs.Standing.{MarkedBefore}
 use Rattle.far_evac.proofs.Fronts.{knows_cells}
 use Rattle.far_evac.proofs.Hands.{knows_more}
 use Rattle.far_evac.proofs.Passing.{IsStep, before_known, from_known, none_there, reads_there, step_known, step_lacks, step_next, step_on, step_passes}
+use Rattle.far_evac.proofs.Walks.{knows_same}
 use Rattle.far_evac.proofs.evac.marking.next_unmarked.Given.{Over}
 use Rattle.far_evac.proofs.evac.marking.next_unmarked.Goals.{After-keeps_law}
 use Rattle.far_evac.proofs.evac.marking.next_unmarked.Goals as goal
@@ -75,3 +76,14 @@ returns g c =
       order = e.order ∙ h.order;
       device = e.device ∙ h.device;
     }
+
+pub loop-found-init : goal.loop-found-init
+loop-found-init g c = record {
+  known = knows_same (g.N.Near.view c.args.book.now.near);
+  exact = λ still. refl;
+  begins = c.requires.begins;
+  before = c.requires.before;
+  order = refl;
+  device = refl;
+  came = no_call refl;
+}

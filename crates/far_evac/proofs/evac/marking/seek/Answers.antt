@@ -1,10 +1,11 @@
-use Rattle.std.proofs.Common.{◌∙◌, ◌+◌, drop, slice_index_or, refl}
-use Rattle.far_hand.proofs.Closure.{then_came}
+use Rattle.std.proofs.Common.{◌∙◌, ◌+◌, arith, drop, slice_index_or, refl}
+use Rattle.far_hand.proofs.Closure.{no_call, then_came}
 use Rattle.far_evac.proofs.Hands.{knows_more}
 use Rattle.far_evac.proofs.Keeping.{round_found}
 use Rattle.far_evac.proofs.Onward.{front_begins, front_inside, front_is, front_marked, moved_on, next_log}
 use Rattle.far_evac.proofs.Passing.{boundary_known}
 use Rattle.far_evac.proofs.Standings.{at_start}
+use Rattle.far_evac.proofs.Walks.{knows_same}
 use Rattle.far_evac.proofs.evac.marking.seek.Goals as goal
 
 pub next_unmarked-requires : goal.next_unmarked-requires
@@ -52,3 +53,25 @@ loop-index-preserved g c =
       device = e.device ∙ h.device;
       came = then_came h.came e.came;
     }
+
+pub loop-index-init : goal.loop-index-init
+loop-index-init g c = record {
+  known = knows_same (g.N.Near.view c.args.book.now.near);
+  exact = λ still. refl;
+  stands = c.requires.stands;
+  order = refl;
+  device = refl;
+  came = no_call refl;
+}
+
+pub returns : goal.returns
+returns g c = let h = c.loop-index.invariant in record {
+  came = h.came;
+  stands = h.stands;
+  next = tt;
+  none = omega (arith, c.len.ensures, c.loop-index-test.false, h.stands.stands.index);
+  known = h.known;
+  exact = h.exact;
+  order = h.order;
+  device = h.device;
+}
