@@ -63,15 +63,9 @@ impl Ledger {
         let sets = SETS * shape.mutators as usize;
         let mut free_logs = NumberSet::below(shape.logs as u8);
         free_logs.remove(0);
-        let Ok(filled) = vec![in alloc; Filled { tail: 0, live: 0 }; logs] else {
-            return Err(AllocError);
-        };
-        let Ok(order) = Order::new(alloc) else {
-            return Err(AllocError);
-        };
-        let Ok(free_cells) = vec![in alloc; NumberSet::below(64); sets] else {
-            return Err(AllocError);
-        };
+        let filled = vec![in alloc; Filled { tail: 0, live: 0 }; logs]?;
+        let order = Order::new(alloc)?;
+        let free_cells = vec![in alloc; NumberSet::below(64); sets]?;
         Ok(Ledger {
             current: 0,
             free_logs,
