@@ -1,16 +1,75 @@
-use Rattle.std.proofs.Common.{◌≡◌, ℕ, ◌<◌, ◌*◌, Some, Err, ap, inl, inr, refl, rules, subst, sym, ◌∙◌}
-use Rattle.std.specs.Prelude.{IfErr}
+use Rattle.std.proofs.Common.{◌≡◌, ℕ, ◌<◌, ◌*◌, ◌/◌, ◌%◌, Bool, Option, Some, None, true, false, Err, ap, arith, inl, inr, is_some, refl, subst, sym, ◌∙◌}
+use Rattle.std.specs.Prelude.{IfErr, if◌then◌else◌, slice_index_or}
+use Rattle.std.proofs.lemmas.Bool.{eqb-true, false≢true}
 use Rattle.far_word.specs.declared.refused.Refused.TheVariants.{Memory, NoRoom}
 use Rattle.far_word.specs.declared.sizes.TheConstants.{CELLS}
 use Rattle.far_table.specs.declared.book.BookSeat.{BookSeat}
 use Rattle.far_evac.specs.EvacOf.{EvacOf}
-use Rattle.far_heap.specs.BookHad.{LeavesIt}
+use Rattle.far_heap.specs.BookHad.{BookHad, LeavesIt, Unbrought}
 use Rattle.far_heap.specs.Helping.{IsBrought, Looks}
-use Rattle.far_heap.specs.Mine.{IsUnbrought}
+use Rattle.far_heap.specs.Mine.{IsUnbrought, Mine, Object, owns, uses}
 use Rattle.far_heap.proofs.Asking.{asks_none}
 use Rattle.far_heap.proofs.Bringing.{brought_by}
 use Rattle.far_heap.proofs.Leaving.{fetch_leaves, move_leaves}
 use Rattle.far_heap.proofs.under_lock.fetch_or_move.Goals as goal
+
+-- a used pointer is one of the heap's
+if_used : (b : Bool) (o : Option Object) → is_some (if b then o else None) ≡ true → b ≡ true
+if_used true o e = refl
+if_used false o e = absurd (false≢true e)
+
+own_low : (p number n : ℕ) → p / CELLS ≡ number → number < n → p < CELLS * n
+own_low p number n own low = omega arith
+
+used_low : (m : Mine) (p n : ℕ) → uses m p ≡ true → m.number < n → p < CELLS * n
+used_low m p n used low = own_low p m.number n (eqb-true (p / CELLS) m.number (if_used (owns m p) (slice_index_or m.objects (p % CELLS) None) used)) low
+
+-- ---- what is asked of what is called
+pub fetch_far-requires : goal.fetch_far-requires
+fetch_far-requires g c = record { pointer = used_low c.args.own.now c.args.p g.K.HeapName.heap.mutators c.requires.used c.requires.one }
+
+pub ask_move-asked-requires-clause-used : goal.ask_move-asked-requires-clause-used
+ask_move-asked-requires-clause-used g c = c.requires.used
+
+pub ask_move-asked-requires-clause-free : goal.ask_move-asked-requires-clause-free
+ask_move-asked-requires-clause-free g c = c.requires.unviewed
+
+pub move_asked-requires : goal.move_asked-requires
+move_asked-requires g c =
+    let low = used_low c.args.own.now c.args.p g.K.HeapName.heap.mutators c.requires.used c.requires.one in
+    record { pointer = subst (λ (q : ℕ). q < CELLS * g.K.HeapName.heap.mutators) (sym c.ask_move-asked.ensures.pointer) low }
+
+-- ---- what it answers
+pub returns-in-Ok-clause-round : goal.returns-in-Ok-clause-round
+returns-in-Ok-clause-round g c = c.fetch_far.ensures.round
+
+pub returns-in-Err-clause-round : goal.returns-in-Err-clause-round
+returns-in-Err-clause-round g c = c.fetch_far.ensures.round
+
+pub returns-in-Some-Ok-clause-round : goal.returns-in-Some-Ok-clause-round
+returns-in-Some-Ok-clause-round g c =
+    let f = c.fetch_far.ensures.round in
+    let m = c.move_asked.ensures.round in
+    (m.0 ∙ f.0, m.1 ∙ f.1, m.2 ∙ f.2)
+
+pub returns-in-Some-Err-clause-round : goal.returns-in-Some-Err-clause-round
+returns-in-Some-Err-clause-round g c =
+    let f = c.fetch_far.ensures.round in
+    let m = c.move_asked.ensures.round in
+    (m.0 ∙ f.0, m.1 ∙ f.1, m.2 ∙ f.2)
+
+pub returns-in-Err-clause-cause : goal.returns-in-Err-clause-cause
+returns-in-Err-clause-cause g c = subst (λ a. IfErr a (λ why. BookHad g.row.D.Denot g.K.HeapName.heap (Unbrought c.args.p why))) c.in-Err.is c.in-Some.ensures.cause
+
+pub returns-in-Some-Err-clause-refused : goal.returns-in-Some-Err-clause-refused
+returns-in-Some-Err-clause-refused g c =
+    let none = subst (λ a. IfErr a (λ why. why ≡ NoRoom)) c.in-Some-Err.field-0-is c.in-Some-Err.ensures.refused in
+    (inl none, inl none)
+
+pub returns-in-Some-Err-clause-cause : goal.returns-in-Some-Err-clause-cause
+returns-in-Some-Err-clause-cause g c =
+    subst (λ (q : ℕ). BookHad g.row.D.Denot g.K.HeapName.heap (Unbrought q c.in-Some-Err.why)) c.ask_move-asked.ensures.pointer
+    (subst (λ a. IfErr a (λ why. BookHad g.row.D.Denot g.K.HeapName.heap (Unbrought c.ask_move-asked.result.pointer why))) c.in-Some-Err.field-0-is c.in-Some-Err.ensures.cause)
 
 pub returns-in-Ok-clause-asks : goal.returns-in-Ok-clause-asks
 returns-in-Ok-clause-asks g c = asks_none c.args.p c.args.own.now
@@ -61,7 +120,8 @@ returns-in-Some-Ok-clause-brought g c = λ h.
     subst (λ (q : ℕ). IsBrought d.contents d.honest d.faults d.fails_at_most d.lets_go d.forgets d.reads d.reads_in_place f q) c.ask_move-asked.ensures.pointer
     (brought_by _ _ _ _ _ _ _ _ m.0 f _ c.in-Some-Ok.field-0 c.in-Some-Ok.place c.is_some-in-Some-Ok.result (inr m.2.1) c.in-Some-Ok.field-0-is c.is_some-in-Some-Ok.ensures h)
 
-pub move_asked-requires : goal.move_asked-requires
-move_asked-requires g c =
-    let low : c.args.p < CELLS * g.K.HeapName.heap.mutators = search rules in
-    record { pointer = subst (λ (q : ℕ). q < CELLS * g.K.HeapName.heap.mutators) (sym c.ask_move-asked.ensures.pointer) low }
+pub returns-in-Some-Ok-clause-asks : goal.returns-in-Some-Ok-clause-asks
+returns-in-Some-Ok-clause-asks g c = (_, c.ask_move-asked.ensures.asked)
+
+pub returns-in-Some-Err-clause-asks : goal.returns-in-Some-Err-clause-asks
+returns-in-Some-Err-clause-asks g c = (_, c.ask_move-asked.ensures.asked)
