@@ -1,8 +1,11 @@
-use Rattle.std.proofs.Common.{◌∙◌, ap, refl, not}
+use Rattle.std.proofs.Common.{◌∙◌, ap, refl, not, sym}
 use Rattle.far_evac.specs.Cursor.{standing_at}
 use Rattle.far_evac.specs.EvacOf.{EvacOf, moment}
 use Rattle.far_evac.specs.Live.{is_empty, lacking}
+use Rattle.far_evac.specs.Standing.{collection_in}
 use Rattle.far_evac.proofs.HandKept.{since_evac}
+use Rattle.far_evac.proofs.HeldJobs.{jobs_left, knows_jobs}
+use Rattle.far_evac.proofs.Onward.{not_leaving}
 use Rattle.far_evac.proofs.MarkRuns.{left_shown}
 use Rattle.far_evac.proofs.MarkSteps.{Sought, knows_so, moment_so, next_held, next_phase}
 use Rattle.far_evac.proofs.evac.Evac.lacks_some.Given.{Over}
@@ -34,3 +37,21 @@ returns-clause-exact g c still =
 
 pub returns-clause-device : goal.returns-clause-device
 returns-clause-device g c = c.seek-next.ensures.device ∙ ap (λ (e : EvacOf g.row.N.Denot g.row.D.Denot). e.book.device) c.self.view_is
+
+pub seek-next-requires-clause-stands : goal.seek-next-requires-clause-stands
+seek-next-requires-clause-stands g c = c.self.invariant.round
+
+pub seek-next-requires-clause-marking : goal.seek-next-requires-clause-marking
+seek-next-requires-clause-marking g c = ap (λ (e : EvacOf g.row.N.Denot g.row.D.Denot). e.phase) c.self.view_is ∙ c.requires.marking
+
+pub invariant_of-self : goal.invariant_of-self
+invariant_of-self g c =
+    let h = sought g (goal.at.invariant_of-self g c).After-seek-next in
+    let s = g.N.Near.view c.self.inside.book.near in
+    let t = g.N.Near.view c.seek-next.new.book.near in
+    let r = c.self.inside.round in
+    record {
+      round = c.seek-next.ensures.stands;
+      jobs = jobs_left s t c.self.inside.copying (knows_jobs s t c.seek-next.ensures.known) r.phase r.phase (collection_in r) _ (λ e. not_leaving (sym h.marks ∙ e)) c.self.invariant.jobs;
+      exact = c.self.invariant.exact;
+    }

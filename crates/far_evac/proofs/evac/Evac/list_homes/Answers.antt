@@ -1,6 +1,9 @@
-use Rattle.std.proofs.Common.{sym, ◌∙◌, arith}
-use Rattle.far_hand.proofs.Closure.{then_came}
-use Rattle.far_evac.proofs.Auditing.{found_more, listed_dropped, listed_none, listed_one, same_but_near}
+use Rattle.std.proofs.Common.{◌≡◌, ◌*◌, length, ap, refl, rules, sym, ◌∙◌, arith}
+use Rattle.far_word.specs.declared.sizes.TheConstants.{CELLS}
+use Rattle.far_core.specs.state.State.{State}
+use Rattle.far_hand.proofs.Closure.{no_call, then_came}
+use Rattle.far_evac.proofs.Auditing.{found_more, listed, listed_dropped, listed_none, listed_one, same_but_near}
+use Rattle.far_evac.proofs.Walks.{knows_same}
 use Rattle.far_evac.proofs.evac.Evac.list_homes.Goals as goal
 
 pub loop-pointer-preserved-in_default : goal.loop-pointer-preserved-in_default
@@ -58,4 +61,31 @@ loop-pointer-preserved g c =
       rest = same_but_near c.args.self.now c.loop-pointer.self c.locate.new.self h.rest done.order done.device c.locate.ensures.round;
       exact = λ still. done.exact still ∙ h.exact still;
       came = then_came h.came done.came;
+    }
+
+pub loop-pointer-init : goal.loop-pointer-init
+loop-pointer-init g c =
+    let none = ap length c.requires.empty in
+    record {
+      homes = c.requires.empty;
+      count = omega (arith, none);
+      room = refl;
+      end = search rules;
+      known = knows_same (g.N.Near.view c.args.self.now.book.near);
+      rest = refl;
+      exact = λ still. refl;
+      came = no_call refl;
+    }
+
+pub returns : goal.returns
+returns g c =
+    let h = c.loop-pointer.invariant in
+    let t = g.N.Near.view c.loop-pointer.self.book.near in
+    let all : c.loop-pointer.pointer ≡ CELLS * (g.N.Near.view c.args.self.now.book.near).mutators = omega (arith, h.end, c.loop-pointer.auto.pointer-end, c.loop-pointer-test.false) in
+    record {
+      came = h.came;
+      homes = h.homes ∙ ap (listed t.cell) (all ∙ sym (ap (λ (x : State). CELLS * x.mutators) h.known.rest));
+      known = h.known;
+      rest = h.rest;
+      exact = h.exact;
     }

@@ -4,7 +4,7 @@ use Rattle.far_evac.proofs.evac.Evac.make_turns.Goals.{In-Ok}
 use Rattle.far_evac.proofs.evac.Evac.make_turns.Goals as goal
 use Rattle.std.proofs.Common.{Bool, Err, ℕ, refl, ◌≡◌, ◌<◌, ◌∙◌, ◌+◌, true, false, ap, sym, subst, arith}
 use Rattle.far_evac.specs.declared.answers.RoundEnd.{RoundEnd}
-use Rattle.far_evac.specs.declared.answers.RoundEnd.TheVariants.{Done}
+use Rattle.far_evac.specs.declared.answers.RoundEnd.TheVariants.{Done, Limit}
 use Rattle.far_evac.specs.declared.phase.Phase.TheVariants.{Waiting}
 use Rattle.std.proofs.lemmas.Bool.{true≢false}
 use Rattle.far_device.specs.Following.{Follows}
@@ -13,9 +13,9 @@ use Rattle.far_evac.specs.Failing.{fails, no_key}
 use Rattle.far_evac.specs.declared.answers.Progress.{Progress}
 use Rattle.far_evac.proofs.Failures.{fails_alike}
 use Rattle.far_evac.specs.EvacOf.{moment}
-use Rattle.far_evac.specs.Moment.{nothing, progress_of, tally_of}
+use Rattle.far_evac.specs.Moment.{nothing, plus, progress_of, tally_of}
 use Rattle.far_evac.specs.Turning.{IsCountedIn, IsWithin, most_turns, turned_at}
-use Rattle.far_evac.specs.Turns.{Turned, round_end, turns_made}
+use Rattle.far_evac.specs.Turns.{Halts, Turned, round_end, turn_size, turns_made}
 use Rattle.far_evac.proofs.Bounds.{starts_within}
 use Rattle.far_evac.proofs.TurnsOn.{Made, asked_done, asked_limit, asked_stop, leads_exactly, made_more, none_made, turns_more, turns_over}
 use Rattle.far_evac.proofs.Waits.{turns_wait, waiting_of}
@@ -116,3 +116,43 @@ turn_more-requires g c = record {
 } where
   few_turns : (counter turns : ℕ) → counter < turns → turns < most_turns → counter < most_turns
   few_turns counter turns lt few = omega (arith, lt, few)
+
+pub returns-then-total-clause-follows : goal.returns-then-total-clause-follows
+returns-then-total-clause-follows g c =
+    follows_on g.D.Device.contents g.D.Device.honest g.D.Device.faults g.D.Device.fails_at_most no_key false c.args.self.now.book.device c.loop.self.book.device c.turn_more.new.self.book.device c.loop.invariant.follows c.in-Ok.ensures.follows
+
+pub returns-then-is_waiting-clause-follows : goal.returns-then-is_waiting-clause-follows
+returns-then-is_waiting-clause-follows g c =
+    follows_on g.D.Device.contents g.D.Device.honest g.D.Device.faults g.D.Device.fails_at_most no_key false c.args.self.now.book.device c.loop.self.book.device c.turn_more.new.self.book.device c.loop.invariant.follows c.in-Ok.ensures.follows
+
+pub returns-in-Err-clause-why : goal.returns-in-Err-clause-why
+returns-in-Err-clause-why g c = c.in-Err.ensures.why
+
+pub returns-in-Err-clause-halts : goal.returns-in-Err-clause-halts
+returns-in-Err-clause-halts g c still =
+    let t = moment g.N.Near.view c.turn_more.new.self in
+    let halts = c.in-Err.ensures.halts still in
+    let x = c.loop.invariant.exact still in
+    let lt : c.loop.counter < c.args.turns = omega (arith, c.loop-test.true) in (
+      c.loop.counter,
+      halts.0,
+      lt,
+      ap (λ (r : Turned). r.over) x,
+      ap (λ (r : Turned). r.moment.phase) x ∙ c.in-Err.ensures.leaving,
+      subst (λ (r : Turned). Halts r.moment turn_size t halts.0) (sym x) halts.1,
+      halts.2 ∙ ap (λ (r : Turned). progress_of (plus r.tally halts.0) false) (sym x),
+    )
+
+-- ---- all were made
+pub returns-clause-came : goal.returns-clause-came
+returns-clause-came g c = c.loop.invariant.came
+
+pub returns-clause-exact : goal.returns-clause-exact
+returns-clause-exact g c still =
+    let m = moment g.N.Near.view c.args.self.now in
+    let all : c.loop.counter ≡ c.args.turns = omega (arith, c.loop.auto.counter-end, c.loop-test.false) in
+    let now = sym (ap (turns_made m) all) ∙ c.loop.invariant.exact still in
+    (ap (λ phase. Limit phase) c.phase.ensures ∙ sym (ap round_end now), sym (ap (λ (r : Turned). r.moment) now))
+
+pub returns-clause-follows : goal.returns-clause-follows
+returns-clause-follows g c = c.loop.invariant.follows

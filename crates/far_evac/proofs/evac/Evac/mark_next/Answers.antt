@@ -78,3 +78,21 @@ returns g c =
       device = m.device ∙ c.seek-next.ensures.device ∙ ap (λ (e : EvacOf g.row.N.Denot g.row.D.Denot). e.book.device) c.self.view_is;
       found = some_shown h then c.in-Some.span stands ∙ ap (λ (e : EvacOf g.row.N.Denot g.row.D.Denot). not (is_empty (lacking (g.N.Near.view e.book.near) e.collection))) c.self.view_is;
     }
+
+pub seek-next-requires-clause-stands : goal.seek-next-requires-clause-stands
+seek-next-requires-clause-stands g c = c.self.invariant.round
+
+pub seek-next-requires-clause-marking : goal.seek-next-requires-clause-marking
+seek-next-requires-clause-marking g c = ap (λ (e : EvacOf g.row.N.Denot g.row.D.Denot). e.phase) c.self.view_is ∙ c.requires.marking
+
+pub invariant_of-self : goal.invariant_of-self
+invariant_of-self g c =
+    let h = sought g (goal.at.invariant_of-self g c).After-seek-next in
+    let s = g.N.Near.view c.self.inside.book.near in
+    let t = g.N.Near.view c.seek-next.new.book.near in
+    let r = c.self.inside.round in
+    record {
+      round = c.seek-next.ensures.stands;
+      jobs = jobs_left s t c.self.inside.copying (knows_jobs s t c.seek-next.ensures.known) r.phase r.phase (collection_in r) _ (λ e. not_leaving (sym h.marks ∙ e)) c.self.invariant.jobs;
+      exact = c.self.invariant.exact;
+    }

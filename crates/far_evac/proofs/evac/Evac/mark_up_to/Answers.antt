@@ -1,9 +1,12 @@
-use Rattle.std.proofs.Common.{ℕ, ◌∙◌, sym, subst}
-use Rattle.far_hand.proofs.Closure.{then_came}
+use Rattle.std.proofs.Common.{◌≡◌, ℕ, ◌∙◌, ap, arith, length-take-le, refl, sym, subst}
+use Rattle.far_hand.proofs.Closure.{no_call, then_came}
 use Rattle.far_evac.specs.AnyHand.{KnowsMoment}
 use Rattle.far_evac.specs.EvacOf.{moment}
+use Rattle.far_evac.specs.Live.{lacking}
+use Rattle.far_evac.specs.Marking.{marked_core}
 use Rattle.far_evac.specs.Moment.{Moment}
 use Rattle.far_evac.proofs.MarkRuns.{more_here, over_core, over_count, over_here, run_exact, run_known}
+use Rattle.far_evac.proofs.Walks.{knows_same}
 use Rattle.far_evac.proofs.evac.Evac.mark_up_to.Goals as goal
 
 pub returns-then-not-mark_next : goal.returns-then-not-mark_next
@@ -38,4 +41,27 @@ loop-i-preserved g c =
       device = c.mark_next.ensures.device ∙ h.device;
       came = then_came h.came c.mark_next.ensures.came;
       enough = more_here m once fits c.loop-i.i a h.known (sym c.if-not-mark_next.false ∙ c.mark_next.ensures.found);
+    }
+
+pub loop-i-init : goal.loop-i-init
+loop-i-init g c = record {
+  known = record { core = knows_same (g.N.Near.view c.args.self.now.book.near); rest = refl };
+  exact = λ still. refl;
+  device = refl;
+  enough = omega arith;
+  came = no_call refl;
+}
+
+pub returns : goal.returns
+returns g c =
+    let m = moment g.N.Near.view c.args.self.now in
+    let b = moment g.N.Near.view c.loop-i.self in
+    let h = c.loop-i.invariant in
+    let all : c.loop-i.i ≡ c.args.n = omega (arith, c.loop-i.auto.i-end, c.loop-i-test.false) in
+    record {
+      came = h.came;
+      known = subst (λ (k : ℕ). KnowsMoment (record m { core = marked_core m k }) b) all h.known;
+      exact = λ still. h.exact still ∙ ap (λ (k : ℕ). record m { core = marked_core m k }) all;
+      device = h.device;
+      count = sym (length-take-le c.args.n (lacking m.core m.collection) (omega (arith, h.enough, c.loop-i-test.false)));
     }

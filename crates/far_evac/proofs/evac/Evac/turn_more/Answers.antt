@@ -1,13 +1,15 @@
 use Rattle.far_evac.proofs.evac.Evac.turn_more.Given.{Over}
 use Rattle.far_evac.proofs.evac.Evac.turn_more.Goals.{After-keeps_law-in-Ok}
 use Rattle.far_evac.proofs.evac.Evac.turn_more.Goals as goal
-use Rattle.std.proofs.Common.{◌≡◌, ◌∙◌, ◌+◌, ℕ, true, false, cond, List, Option, Result, ap, sym, subst}
+use Rattle.std.proofs.Common.{◌≡◌, ◌∙◌, ◌+◌, ℕ, true, false, cond, Err, List, Option, Result, ap, sym, subst}
+use Rattle.far_device.proofs.Following.{follows_still}
 use Rattle.far_evac.specs.declared.answers.EvacFault.{EvacFault}
 use Rattle.far_evac.specs.declared.answers.Progress.{Progress}
 use Rattle.far_evac.specs.AnyTurns.{TurnsTo}
 use Rattle.far_evac.specs.Asked.{KeepsKeys, asked_of, first_live}
 use Rattle.far_evac.specs.ByCopying.{asked_live}
 use Rattle.far_evac.specs.EvacOf.{moment}
+use Rattle.far_evac.specs.Failing.{fails, no_key}
 use Rattle.far_evac.specs.Live.{live_among}
 use Rattle.far_evac.specs.Moment.{Moment, objects_in, plus, progress_of, tally_of}
 use Rattle.far_evac.specs.Turning.{GoesOn, IsBoundedBy, IsCountedIn, IsSmall, told_in}
@@ -89,3 +91,38 @@ returns-in-Err-clause-halts g c = λ still.
     let m = moment g.N.Near.view c.args.self.now in
     let halts = c.in-Err.ensures.halts still (not_idle m.phase c.requires.running) in
     (halts.0, halts.1, c.sum-in-Err.ensures ∙ ap (λ (p : Progress). progress_of (plus (tally_of c.args.before) (tally_of p)) false) halts.2)
+
+pub returns-in-Ok-clause-came : goal.returns-in-Ok-clause-came
+returns-in-Ok-clause-came g c = c.turn.ensures.came
+
+pub returns-in-Ok-clause-lawful : goal.returns-in-Ok-clause-lawful
+returns-in-Ok-clause-lawful g c = (c.keeps_law.ensures.law, c.keeps_law.ensures.moment)
+
+pub returns-in-Ok-clause-copying : goal.returns-in-Ok-clause-copying
+returns-in-Ok-clause-copying g c = c.turn.ensures.copying
+
+pub returns-in-Ok-clause-over : goal.returns-in-Ok-clause-over
+returns-in-Ok-clause-over g c = c.in-Ok.ensures.goes_on ∙ sym (ap (λ (p : Progress). p.done) c.sum.ensures)
+
+pub returns-in-Ok-clause-follows : goal.returns-in-Ok-clause-follows
+returns-in-Ok-clause-follows g c =
+    follows_still g.D.Device.contents g.D.Device.honest g.D.Device.faults g.D.Device.fails_at_most _ no_key false c.args.self.now.book.device c.turn.new.self.book.device (λ q odd. absurd odd) c.in-Ok.ensures.follows
+
+pub returns-in-Err-clause-came : goal.returns-in-Err-clause-came
+returns-in-Err-clause-came g c = c.turn.ensures.came
+
+pub returns-in-Err-clause-lawful : goal.returns-in-Err-clause-lawful
+returns-in-Err-clause-lawful g c = (c.keeps_law.ensures.law, c.keeps_law.ensures.moment)
+
+pub returns-in-Err-clause-copying : goal.returns-in-Err-clause-copying
+returns-in-Err-clause-copying g c = c.turn.ensures.copying
+
+pub returns-in-Err-clause-leaving : goal.returns-in-Err-clause-leaving
+returns-in-Err-clause-leaving g c = (c.in-Err.ensures.stops (not_idle c.args.self.now.phase c.requires.running)).0
+
+pub returns-in-Err-clause-why : goal.returns-in-Err-clause-why
+returns-in-Err-clause-why g c = c.in-Err.ensures.why (not_idle c.args.self.now.phase c.requires.running)
+
+pub returns-in-Err-clause-follows : goal.returns-in-Err-clause-follows
+returns-in-Err-clause-follows g c =
+    follows_still g.D.Device.contents g.D.Device.honest g.D.Device.faults g.D.Device.fails_at_most _ no_key (fails {A = Progress} (Err c.in-Err.fault)) c.args.self.now.book.device c.turn.new.self.book.device (λ q odd. absurd odd) c.in-Err.ensures.follows
