@@ -306,7 +306,7 @@ impl<F: Storage + Drop, L: Seal> Device for SealedDevice<F, L> {
         }
     }
 
-    /// A read that succeeds gives as many bytes as were written, those that a call of the storage gave. Refused [`DeviceFault::Device`] if nothing is under the
+    /// A read that succeeds gives as many bytes as were written, those that a call of the storage gave. Refused [`DeviceFault::Memory`] for want of room for them, [`DeviceFault::Device`] if nothing is under the
     /// key, the storage failed, or the bytes don't fit their seal; the contents stay.
     fn read(&mut self, id: u32) -> Result<Vec<u8>, DeviceFault>
         ensures called { IfSome (bytes_at self.old id) (λ stored. IfOk result (λ bytes. F.Storage.gets self.old.storage (id * SLOT) (length stored) (Ok bytes.items))) }
@@ -326,7 +326,7 @@ impl<F: Storage + Drop, L: Seal> Device for SealedDevice<F, L> {
         }
     }
 
-    /// Takes no memory if the buffer has room for the bytes.
+    /// As `read`. Takes no memory if the buffer has room for the bytes.
     #[tactic(auto, using(crate::proofs::Rows::either))]
     fn read_into(&mut self, id: u32, buffer: &mut Vec<u8>) -> Result<(), DeviceFault>
         ensures called { IfSome (bytes_at self.old id) (λ stored. OnOk result (F.Storage.gets self.old.storage (id * SLOT) (length stored) (Ok buffer.new.items))) }

@@ -1,6 +1,6 @@
 //! The words of a far memory heap: a pointer cell, an object's header, a mutator's scope, a job of copying.
 //!
-//! This crate alone knows where a bit stands. It takes no memory.
+//! This crate alone knows where a bit stands, but for job words (far_table). It takes no memory.
 #![tactic(auto)]
 
 mod bytes;

@@ -6,7 +6,7 @@ ghost use Rattle.far_word.specs.Scope.{IsScope, scope_word, scope_of};
 
 use crate::sizes::EPOCH_END;
 
-/// Whether a mutator's scope is open, and since which epoch.
+/// Whether a mutator's scope is open, and at which epoch.
 #[derive(Clone, Copy, Debug, PartialEq, Eq)]
 pub enum ScopeWord {
     /// The scope is closed.
