@@ -86,7 +86,7 @@ pub record LeavesRest (s made : State) (p : ℕ) : Type 0 where
   pub spans : (k : ℕ) → s.kind k ≡ kinds.Sealed → spans_of made k ≡ spans_of s k
   pub cells : (q : ℕ) → q ≢ p → made.cell q ≡ s.cell q
 
-spans_kept : (s t : State) (k : ℕ) → ((i : ℕ) → i < s.tail k → t.word (k * LOG_WORDS + i) ≡ s.word (k * LOG_WORDS + i)) → t.tail k ≡ s.tail k → spans_of t k ≡ spans_of s k
+pub spans_kept : (s t : State) (k : ℕ) → ((i : ℕ) → i < s.tail k → t.word (k * LOG_WORDS + i) ≡ s.word (k * LOG_WORDS + i)) → t.tail k ≡ s.tail k → spans_of t k ≡ spans_of s k
 unfolding spans_of spans_in
 spans_kept s t k words tail = ap (λ n. spans_in (word_in t k) n) tail ∙ same_spans (word_in s k) (word_in t k) (s.tail k) 0 (s.tail k) words
 

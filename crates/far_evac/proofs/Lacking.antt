@@ -67,7 +67,7 @@ in_right : (x : ℕ) (xs ys : List ℕ) → Contains ys x → Contains (xs ++ ys
 in_right x [] ys member = member
 in_right x (z ∷ zs) ys member = there x z (zs ++ ys) (in_right x zs ys member)
 
-in_pointers : (x : Span) (xs : List Span) → Contains xs x → Contains (pointers_of xs) x.p
+pub in_pointers : (x : Span) (xs : List Span) → Contains xs x → Contains (pointers_of xs) x.p
 in_pointers x [] member = absurd (none_in x member)
 in_pointers x (y ∷ ys) member = elim (split x y ys member) [
   | inl e ↦ subst (λ (z : Span). Contains (z.p ∷ pointers_of ys) x.p) (sym e) (here x.p (pointers_of ys))
@@ -124,7 +124,7 @@ module _ (s : State) where
       (λ _. once_from l word tail next fuel))
       (λ _. tt)
 
-  once_in : (l : ℕ) → Once (live_in s l)
+  pub once_in : (l : ℕ) → Once (live_in s l)
   unfolding live_in spans_of spans_in
   once_in l = once_from l (word_in s l) (s.tail l) 0 (s.tail l)
 

@@ -74,7 +74,7 @@ module _ (s : State) (p new : ℕ) where
   name_named old = cond_both (s.cell p == old) (after_naming s p new (naming_of (read_of old) (read_of new))) s Named (λ _. form_named (naming_of (read_of old) (read_of new))) (λ _. inr refl)
 
 -- ---- one that is named isn't void
-unvoid : (o : Option JobWord) (void dropped : Bool) → fate_of o void dropped ≡ Names → void ≡ false
+pub unvoid : (o : Option JobWord) (void dropped : Bool) → fate_of o void dropped ≡ Names → void ≡ false
 unvoid None void dropped e = absurd cc
 unvoid (Some Empty) void dropped e = absurd cc
 unvoid (Some (Offered job)) true dropped e = absurd cc
@@ -83,7 +83,7 @@ unvoid (Some (Taken job c)) void dropped e = absurd cc
 unvoid (Some (Finished job c)) true dropped e = absurd cc
 unvoid (Some (Finished job c)) false dropped e = refl
 
-both_hold : (a b : Bool) → (not a || not b) ≡ false → (a ≡ true) × (b ≡ true)
+pub both_hold : (a b : Bool) → (not a || not b) ≡ false → (a ≡ true) × (b ≡ true)
 both_hold true true e = (refl, refl)
 both_hold true false e = absurd (true≢false e)
 both_hold false b e = absurd (true≢false e)
@@ -177,7 +177,7 @@ module _ (s : State) (law : Law (own_part s)) where
         from_is : n.place ≡ job.from
         from_is = λ i. record { log = n.log i; at = n.here i }
 
-        at_from : read_of cell ≡ Some (Near n.len n.ds job.from n.marks)
+        pub at_from : read_of cell ≡ Some (Near n.len n.ds job.from n.marks)
         at_from = n.near ∙ ap (λ place. Some (Near n.len n.ds place n.marks)) from_is
 
         was : StaysOrLeft job.pointer cell → (m : Marks) × (read_of (s.cell job.pointer) ≡ Some (Near n.len n.ds job.from m))
@@ -185,6 +185,13 @@ module _ (s : State) (law : Law (own_part s)) where
         was (inr (place, lies, out)) =
             let same = one_place place job.from (sym lies ∙ ap near_place at_from) in
             absurd (true≢false (sym good_start.1 ∙ ap (λ (at : Place). s.round at.log) (sym same) ∙ out))
+
+        at_first : (m : Marks) × (read_of (s.cell job.pointer) ≡ Some (Near n.len n.ds job.from m))
+        at_first = was (subst (StaysOrLeft job.pointer) found_here (found_cells job.pointer))
+
+        -- the copy lies on the layout
+        pub layout_to : IsPtr (Near n.len n.ds job.to no_marks)
+        layout_to = layout k job at_start good_start job.pointer n.len n.ds at_first.0 at_first.1
 
         abbrev new : ℕ
         new = near_word n.marks.dirty n.len n.ds job.to
@@ -197,9 +204,7 @@ module _ (s : State) (law : Law (own_part s)) where
 
         here_then : StaysOrLeft job.pointer (then.cell job.pointer)
         here_then = elim (name_named x job.pointer new (x.cell job.pointer)) [
-          | inl now ↦
-              let before = was (subst (StaysOrLeft job.pointer) found_here (found_cells job.pointer)) in
-              left_new k job at_start good_start job.pointer n.len n.ds before.0 before.1 (then.cell job.pointer) n.marks.dirty now
+          | inl now ↦ left_new k job at_start good_start job.pointer n.len n.ds at_first.0 at_first.1 (then.cell job.pointer) n.marks.dirty now
           | inr kept ↦ subst (StaysOrLeft job.pointer) (sym kept) (found_cells job.pointer)
         ]
 

@@ -58,6 +58,12 @@ ends_apart l job none = (
   λ e. true≢false (sym (or_right (job.from.log == l) (job.to.log == l) (eq-eqb job.to.log l e)) ∙ none),
 )
 
+-- where nothing lies in a log, and no job reads or writes it, it may be given back
+pub so_may : (s : State) (l : ℕ) → IsVacant s l → IsUncopied s.copying l → may_free s l ≡ true
+so_may s l vacant apart =
+    and_from (is_empty (live_in s l)) (none_copied s.copying l JOBS) (ap is_empty (none_live s l vacant))
+    (uncopied_all s.copying l JOBS (λ j. neither_end l (job_at s.copying.word j) (apart j)))
+
 module _ (s : State) (law : Law (own_part s)) (l : ℕ) where
   in_range : (j : ℕ) (job : Job) → job_at s.copying.word j ≡ Some job → j < JOBS
   in_range j job at = law.copies.jobs.job_range j (λ none.
@@ -73,14 +79,9 @@ module _ (s : State) (law : Law (own_part s)) (l : ℕ) where
       let both = and_parts (is_empty (live_in s l)) (none_copied s.copying l JOBS) may in
       (vacant_in s law l 0 (λ p len ds place marks near log. omega arith) (none_there (live_in s l) both.0), uncopied both.1)
 
-  so_may : IsVacant s l × IsUncopied s.copying l → may_free s l ≡ true
-  so_may (vacant, apart) =
-      and_from (is_empty (live_in s l)) (none_copied s.copying l JOBS) (ap is_empty (none_live s l vacant))
-      (uncopied_all s.copying l JOBS (λ j. neither_end l (job_at s.copying.word j) (apart j)))
-
   -- the book gives it back exactly then
   pub frees_so : (freed : Bool) → (freed ≡ true) ↔ (IsVacant s l × IsUncopied s.copying l) → freed ≡ may_free s l
-  frees_so true so = sym (so_may (so.0 refl))
+  frees_so true so = let is = so.0 refl in sym (so_may s l is.0 is.1)
   frees_so false so = sym (false_from_ne_true (may_free s l) (λ may. true≢false (sym (so.1 (may_so may)))))
 
 -- ---- so a walk stands as it is told

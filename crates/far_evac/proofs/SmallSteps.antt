@@ -30,7 +30,7 @@ module _ (s t : State) (known : Knows s t) where
   held_known : (l : ℕ) → IsOfRound s l → IsOfRound t l
   held_known l h = (ap (λ (u : State). u.kind l) known.rest ∙ h.0, marked_known l h.1, ap (λ (u : State). u.round l) known.rest ∙ h.2)
 
-  ready_known : (held : List ℕ) → Ready s held → Ready t held
+  pub ready_known : (held : List ℕ) → Ready s held → Ready t held
   ready_known held ready = record {
     layout = λ p len ds place marks near. let x = near_known (s.cell p) (t.cell p) (known.found p) len ds place marks near in ready.layout p len ds place x.marks x.near;
     short = λ l. subst (λ (tail : ℕ → ℕ). tail l ≤ LOG_WORDS) (sym (ap (λ (u : State). u.tail) known.rest)) (ready.short l);

@@ -24,6 +24,7 @@ use Rattle.far_evac.specs.AnyHand.{Audits, MarksSome, Polls}
 use Rattle.far_evac.specs.AnyTurns.{AsksInTurn, TurnsTo}
 use Rattle.far_evac.specs.Asked.{asked_of}
 use Rattle.far_evac.specs.ByCopying.{AsksBy, EvacuatesBy, GivesUpBy, RefusesBy, StopsBy, asked_live}
+use Rattle.far_evac.specs.Census.{Sees}
 use Rattle.far_evac.specs.Choosing.{after_aborting, after_selecting}
 use Rattle.far_evac.specs.EvacOf.{EvacOf, moment}
 use Rattle.far_evac.specs.Failing.{fails}
@@ -46,6 +47,7 @@ module _ {N D : Type 0} (still : Type 0) (view : N → State) (makes : N → Eve
     -- whether copies may be offered stays
     pub copying : new.copying ≡ old.copying
     pub begun : IfOk result (λ chosen. moment view new ≡ after_selecting (moment view old) chosen)
+    pub book : IfOk result (λ _. new.book ≡ old.book)
     -- the policy was handed what each sealed log has, and its choice is one
     pub gives : IfOk result (λ chosen. policy_gives policy (map (row_of (view old.book.near)) old.book.order) most (Ok chosen) later)
     pub chosen : IfOk result (λ chosen. IsChoice (map (row_of (view old.book.near)) old.book.order) most chosen)
@@ -91,6 +93,8 @@ module _ {N D : Type 0} (still : Type 0) (view : N → State) (makes : N → Eve
   pub record TakesCensus (old new : EvacOf N D) (result : Result Census Refused) : Type 0 where
     pub came : Came makes old.book.near new.book.near
     pub copying : new.copying ≡ old.copying
+    -- by looks at cells alone
+    pub sees : Came (only Sees makes) old.book.near new.book.near
     -- marks may have been found meanwhile, and nothing else has changed; over a hand that is still nothing has
     pub lists : IfOk result (λ census. Audits (moment view old) (moment view new) census.homes.items census.logs.items)
     pub each : IfOk result (λ census. ListsEach (moment view new) census.homes.items census.logs.items)

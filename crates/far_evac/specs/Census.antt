@@ -1,9 +1,11 @@
 -- What an audit lists: where each object is that isn't dropped, and what each log is and has.
-use Rattle.std.specs.Prelude.{ℕ, ◌*◌, Bool, cond, Option, Some, None, List, [], ◌∷◌, map}
+use Rattle.std.specs.Prelude.{◌≡◌, ℕ, ◌*◌, Bool, cond, Option, Some, None, List, [], ◌∷◌, map}
 use Rattle.std.specs.List.{flat_map, range_with_len}
 use Rattle.far_word.specs.declared.pointer.PtrWord.{PtrWord}
 use Rattle.far_word.specs.declared.sizes.TheConstants.{CELLS}
 use Rattle.far_word.specs.Pointer.{read_of}
+use Rattle.far_core.specs.declared.event.Event.{Event}
+use Rattle.far_core.specs.declared.event.Event.TheVariants.{See}
 use Rattle.far_core.specs.declared.event.Kind.{Kind}
 use Rattle.far_core.specs.declared.event.Kind.TheVariants as kinds
 use Rattle.far_core.specs.events.Naming.{is_dropped}
@@ -18,6 +20,10 @@ use Rattle.far_evac.specs.declared.census.LogKind.TheVariants.{Free, Open, Seale
 use Rattle.far_evac.specs.declared.census.LogState.{LogState}
 use Rattle.far_evac.specs.Moment.{Moment}
 use Rattle.far_evac.specs.RoundSteps.{among}
+
+-- a look at a pointer's cell
+abbrev pub Sees : Event → Type 0
+Sees e = (p : ℕ) × (e ≡ See p)
 
 -- a pointer is listed where its cell is used and hasn't DROP
 abbrev pub housed_at : ℕ → Option Home → List Housed

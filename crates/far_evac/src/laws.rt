@@ -2,7 +2,7 @@
 
 ghost use Rattle.std.specs.Prelude.{◌≡◌};
 ghost use Rattle.far_evac.specs.Copied.{CopiedIsAllowed};
-ghost use Rattle.far_evac.specs.CopiedBack.{CopiedComesBack};
+ghost use Rattle.far_evac.specs.CopiedBack.{CopiedComesBack, LeftHasJobs};
 ghost use Rattle.far_evac.specs.Callers.{CallersSealBehind, CoresJoin, FetchingOrder, FetchingStepsAside, MovingOrder, MovingStepsAside, OwnersStepAside, PlacingOrder, PlacingStepsAside, RetiringOrder, RetiringStepsAside, StepsJoin, StepsKeep, StillOrder, StillStepsAside};
 ghost use Rattle.far_evac.specs.Leading.{AbortingLeads, ChoiceIsOfSealed, MarkingLeads, PollingLeads, RoundLeads, SelectingLeads, TurnsLead, WalkingLeads};
 ghost use Rattle.far_evac.specs.Owned.{AbortingKeepsObjects, MarkingKeepsObjects, PollingKeepsObjects, RoundKeepsObjects, SelectingKeepsObjects, TurnsKeepObjects, TurnsRetireNone, WalkRetiresNone, WalkingKeepsObjects};
@@ -261,9 +261,11 @@ pub fn copied_is_allowed()
 {}
 
 /// Where copies may be offered, over any hand: what an evacuation leaves of the collection set are some of its logs, in their order. The others are counted as given
-/// back, and each of them is out of the round.
+/// back, and each of them is out of the round. Where it may deal with all objects that lay there, whatever still lies in a log that is left has a job that isn't void, and
+/// each log that is left is one that a job reads or writes.
 pub fn copied_comes_back()
-    ensures { CopiedComesBack }
+    ensures back { CopiedComesBack }
+    ensures left { LeftHasJobs }
 {}
 
 /// Worked examples where copies may be offered: copiers' events stand in the lists too.

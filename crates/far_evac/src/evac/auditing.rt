@@ -3,11 +3,11 @@
 ghost use Rattle.std.specs.Prelude.{◌≡◌, ◌*◌, ◌<◌, ◌≤◌, []};
 ghost use Rattle.std.specs.Vec.{vec_capacity};
 ghost use Rattle.far_word.specs.declared.sizes.TheConstants.{CELLS};
-ghost use Rattle.far_hand.specs.Came.{Came};
+ghost use Rattle.far_hand.specs.Came.{Came, only};
 ghost use Rattle.far_book.specs.book.Rows.{row_of};
 ghost use Rattle.far_evac.specs.AnyHand.{Knows};
 ghost use Rattle.far_evac.specs.Calls.{TakesCensus};
-ghost use Rattle.far_evac.specs.Census.{has_drop, homes_of, kind_in, kind_named, logs_of};
+ghost use Rattle.far_evac.specs.Census.{Sees, has_drop, homes_of, kind_in, kind_named, logs_of};
 ghost use Rattle.far_evac.specs.EvacOf.{moment};
 ghost use Rattle.far_evac.specs.RoundSteps.{among};
 
@@ -58,7 +58,7 @@ impl<N: Near + Drop, D: Device + Drop> Evac<N, D> {
     fn list_homes(&mut self, homes: &mut Vec<Housed>)
         requires empty { homes.old.items ≡ [] }
         requires room { CELLS * (N.view self.old.book.near).mutators ≤ vec_capacity homes.old }
-        ensures came { Came N.makes self.old.book.near self.new.book.near }
+        ensures sees { Came (only Sees N.makes) self.old.book.near self.new.book.near }
         ensures homes { homes.new.items ≡ homes_of (N.view self.new.book.near) }
         ensures known { Knows (N.view self.old.book.near) (N.view self.new.book.near) }
         ensures rest { self.new ≡ record self.old { book = record self.old.book { near = self.new.book.near } } }

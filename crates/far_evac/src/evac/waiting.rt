@@ -17,8 +17,8 @@ use far_device::Device;
 use far_word::{Refused, ScopeWord};
 
 impl<N: Near + Drop, D: Device + Drop> Evac<N, D> {
-    /// Looks at the scopes of the owners that weren't seen clear in this round, in order: one that is closed, or open since the epoch
-    /// rose, is clear from then on. [`Polled::Clear`] where all are: nobody views anything in the chosen logs then, in whatever state the words may be beside the
+    /// Looks at the scopes of the owners that weren't seen clear in this round, in order: one that is closed, or open at the new
+    /// epoch, is clear from then on. [`Polled::Clear`] where all are: nobody views anything in the chosen logs then, in whatever state the words may be beside the
     /// hand, and the objects may leave. Else the first other, with the epoch at which its scope was seen open.
     ///
     /// Refused [`Refused::Phase`] exactly where the round isn't waiting; nothing has changed then. It never blocks.

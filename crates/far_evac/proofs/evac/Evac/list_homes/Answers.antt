@@ -1,7 +1,7 @@
 use Rattle.std.proofs.Common.{◌≡◌, ◌*◌, length, ap, refl, rules, sym, ◌∙◌, arith}
 use Rattle.far_word.specs.declared.sizes.TheConstants.{CELLS}
 use Rattle.far_core.specs.state.State.{State}
-use Rattle.far_hand.proofs.Closure.{no_call, then_came}
+use Rattle.far_hand.proofs.Closure.{no_call, then_call}
 use Rattle.far_evac.proofs.Auditing.{found_more, listed, listed_dropped, listed_none, listed_one, same_but_near}
 use Rattle.far_evac.proofs.Walks.{knows_same}
 use Rattle.far_evac.proofs.evac.Evac.list_homes.Goals as goal
@@ -22,7 +22,7 @@ loop-pointer-preserved-in_default g c =
       known = found_more s t p items done.kept h.homes (g.N.Near.view c.args.self.now.book.near) done.found h.known;
       rest = same_but_near c.args.self.now c.loop-pointer.self c.locate.new.self h.rest done.order done.device c.locate.ensures.round;
       exact = λ still. done.exact still ∙ h.exact still;
-      came = then_came h.came done.came;
+      sees = then_call _ _ h.sees ((p, refl), done.made);
     }
 
 pub loop-pointer-preserved-then-has_drop : goal.loop-pointer-preserved-then-has_drop
@@ -41,7 +41,7 @@ loop-pointer-preserved-then-has_drop g c =
       known = found_more s t p items done.kept h.homes (g.N.Near.view c.args.self.now.book.near) done.found h.known;
       rest = same_but_near c.args.self.now c.loop-pointer.self c.locate.new.self h.rest done.order done.device c.locate.ensures.round;
       exact = λ still. done.exact still ∙ h.exact still;
-      came = then_came h.came done.came;
+      sees = then_call _ _ h.sees ((p, refl), done.made);
     }
 
 pub loop-pointer-preserved : goal.loop-pointer-preserved
@@ -60,7 +60,7 @@ loop-pointer-preserved g c =
       known = found_more s t p items done.kept h.homes (g.N.Near.view c.args.self.now.book.near) done.found h.known;
       rest = same_but_near c.args.self.now c.loop-pointer.self c.locate.new.self h.rest done.order done.device c.locate.ensures.round;
       exact = λ still. done.exact still ∙ h.exact still;
-      came = then_came h.came done.came;
+      sees = then_call _ _ h.sees ((p, refl), done.made);
     }
 
 pub loop-pointer-init : goal.loop-pointer-init
@@ -74,7 +74,7 @@ loop-pointer-init g c =
       known = knows_same (g.N.Near.view c.args.self.now.book.near);
       rest = refl;
       exact = λ still. refl;
-      came = no_call refl;
+      sees = no_call refl;
     }
 
 pub returns : goal.returns
@@ -83,7 +83,7 @@ returns g c =
     let t = g.N.Near.view c.loop-pointer.self.book.near in
     let all : c.loop-pointer.pointer ≡ CELLS * (g.N.Near.view c.args.self.now.book.near).mutators = omega (arith, h.end, c.loop-pointer.auto.pointer-end, c.loop-pointer-test.false) in
     record {
-      came = h.came;
+      sees = h.sees;
       homes = h.homes ∙ ap (listed t.cell) (all ∙ sym (ap (λ (x : State). CELLS * x.mutators) h.known.rest));
       known = h.known;
       rest = h.rest;

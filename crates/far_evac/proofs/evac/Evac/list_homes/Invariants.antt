@@ -1,7 +1,8 @@
 use Rattle.std.proofs.Common.{◌≡◌, ◌*◌, ◌≤◌, vec_len, vec_capacity}
 use Rattle.far_word.specs.declared.sizes.TheConstants.{CELLS}
-use Rattle.far_hand.specs.Came.{Came}
+use Rattle.far_hand.specs.Came.{Came, only}
 use Rattle.far_evac.specs.AnyHand.{Knows}
+use Rattle.far_evac.specs.Census.{Sees}
 use Rattle.far_evac.proofs.Auditing.{listed}
 use Rattle.far_evac.proofs.evac.Evac.list_homes.Given as goal
 
@@ -14,5 +15,5 @@ invariant-loop-pointer g l = record {
   known : Knows (g.N.Near.view l.fn.self.book.near) (g.N.Near.view l.self.book.near);
   rest : l.self ≡ record l.fn.self { book = record l.fn.self.book { near = l.self.book.near } };
   exact : g.N.Near.still → g.N.Near.view l.self.book.near ≡ g.N.Near.view l.fn.self.book.near;
-  came : Came g.N.Near.makes l.fn.self.book.near l.self.book.near;
+  sees : Came (only Sees g.N.Near.makes) l.fn.self.book.near l.self.book.near;
 }
