@@ -61,14 +61,18 @@ for side in memory far.bin; do
     done
     expect "$side, all records" 0 'records 8192 operations 0 wrong 0' '' "$side" 64 8 8192 0 7
     expect "$side, fewer records than shards" 0 'records 3 operations 90 wrong 0' '' "$side" 8 8 3 90 7
-    # what outgrows the logs comes back from the far side
+    # what outgrows the logs comes back from the far side, each time after it was sent there
     for asked in '2 1000 2001 7' '3 1000 2000 8'; do
         "$program" "$side" 8 $asked tell >out
-        if ! grep -qE '^fetches [1-9][0-9]* evictions [1-9][0-9]* moves [0-9]+ rounds [1-9][0-9]* waits [0-9]+$' out || ! grep -qx "digest $(digest $asked)" out; then
+        if ! grep -qE '^fetches [1-9][0-9]* evictions [1-9][0-9]* moves [0-9]+ rounds [1-9][0-9]* waits [0-9]+$' out ||
+            ! awk '$1 == "fetches" { exit !($2 <= $4) }' out || ! grep -qx "digest $(digest $asked)" out; then
             echo "store: $side $asked: $(cat out)" >&2
             wrong=1
         fi
     done
+    # 250 objects of 33 words fill 17 of 64 logs: all stay near
+    told=$'records 1000 operations 2001 wrong 0\nfetches 0 evictions 0 moves 0 rounds 0 waits 0\n'
+    expect "$side, all near" 0 "${told}digest $(digest 2 1000 2001 7)" '' "$side" 64 2 1000 2001 7 tell
 done
 
 usage='usage: far_store memory|FILE LOGS MUTATORS RECORDS OPERATIONS SEED [tell]'

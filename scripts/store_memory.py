@@ -3,9 +3,10 @@
 
 usage: store_memory.py PROGRAM [LIMITS]
 LIMITS is how many limits are tried over each, 100 if not said. A run must end as without a limit, or with status 4, a reason and nothing
-printed, and within 60 seconds. Both must come. Prints only what is wrong.
+printed, and within 60 seconds. Both must come. The reason is that memory or a thread was refused. Prints only what is wrong.
 """
 import os
+import re
 import resource
 import subprocess
 import sys
@@ -14,6 +15,10 @@ import tempfile
 ASKED = "8 2 1000 2000 7".split()
 PAGE = 4_096
 MOST = 2**32
+# By the words that weren't read; the heap, a shard or a round; the storage; the threads.
+REASON = re.compile(
+    rb"far_store: (memory|out of memory(; done before: moved \d+ far \d+ dropped \d+ freed \d+)?|the storage failed: a growth was refused|no thread could be made)\n"
+)
 
 
 def run(program: str, words: list, limit: int) -> tuple:
@@ -51,7 +56,7 @@ def main() -> int:
                 status, out, said = ended = run(program, words, limit)
                 if ended == whole:
                     ends["whole"] += 1
-                elif (status, out) == (4, b"") and said:
+                elif (status, out) == (4, b"") and REASON.fullmatch(said):
                     ends["refused"] += 1
                 else:
                     print(f"store_memory: {side}, {limit} bytes: status {status}, printed {out}, said {said}")

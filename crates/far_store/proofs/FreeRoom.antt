@@ -1,19 +1,25 @@
 -- How many logs are free, and that there is room where two are.
-use Rattle.std.proofs.Common.{◌≡◌, ℕ, zero, suc, ◌+◌, ◌≤◌, Bool, true, false, cond, nat_le, Option, Some, List, [], ◌∷◌, length, refl, sym, ap, ◌∙◌, arith}
-use Rattle.std.specs.Prelude.{IsSome}
+use Rattle.std.proofs.Common.{◌≡◌, ℕ, zero, suc, ◌+◌, ◌<◌, ◌≤◌, Bool, true, false, cond, nat_le, Option, Some, List, [], ◌∷◌, length, refl, sym, ap, subst, ◌∙◌, arith}
+use Rattle.std.specs.Prelude.{IsSome, Result}
 use Rattle.std.specs.List.{range_with_len, sum_by}
 use Rattle.std.proofs.lemmas.Bool.{cond_both}
 use Rattle.std.proofs.lemmas.List.Sums.{length-filter, sum_by-cons}
+use Rattle.far_log.specs.declared.row.LogRow.{LogRow}
 use Rattle.far_word.specs.declared.pointer.Place.{Place}
+use Rattle.far_word.specs.declared.refused.Refused.{Refused}
 use Rattle.far_word.specs.declared.sizes.TheConstants.{LOG_WORDS}
 use Rattle.far_core.specs.declared.event.Kind.{Kind}
 use Rattle.far_core.specs.declared.event.Kind.TheVariants as kinds
 use Rattle.far_core.specs.state.Room.{free_logs, is_free, lowest, room}
 use Rattle.far_core.specs.state.State.{State}
+use Rattle.far_device.specs.declared.fault.DeviceFault.{DeviceFault}
+use Rattle.far_table.specs.BookSeats.{seat_view}
 use Rattle.far_evac.specs.Census.{kind_in, kind_named}
+use Rattle.far_evac.specs.EvacOf.{moment}
 use Rattle.far_evac.specs.Moment.{Moment}
 use Rattle.far_evac.specs.RoundSteps.{among}
-use Rattle.far_store.specs.FreeLogs.{free_below, one_if_free}
+use Rattle.far_heap.specs.HeapId.{HeapId}
+use Rattle.far_store.specs.FreeLogs.{GoByFreeLogs, free_below, one_if_free}
 
 -- a log counts where the core may give it out
 one_by : (chosen : Bool) (k : Kind) → one_if_free (kind_named chosen k) ≡ cond (is_free k) 1 0
@@ -61,3 +67,12 @@ two_left (l ∷ k ∷ ls) two = refl
 pub has_room : (s : State) → 2 ≤ length (free_logs s) → (size : ℕ) → IsSome (room s size true)
 has_room s two size =
     cond_both (nat_le (s.tail s.current + size) LOG_WORDS) (Some record { log = s.current; at = s.tail s.current }) (lowest true (free_logs s)) (λ (o : Option Place). IsSome o) (λ fits. refl) (λ full. two_left (free_logs s) two)
+
+-- steps go by logs that may be given out
+pub go_by_free_logs : {P D : Type 0} (gives : P → List LogRow → ℕ → Result (List ℕ) Refused → P → Type 0) (writes : D → ℕ → List ℕ → Result (Unit {0}) DeviceFault → D → Type 0) (lets_go : D → ℕ → D → Type 0)
+    (contents : D → ℕ → Option (List ℕ)) (heap : HeapId) (free most : ℕ) → GoByFreeLogs gives writes lets_go contents heap free most
+go_by_free_logs gives writes lets_go contents heap free most = record {
+  enough = λ before after e f steps. subst (λ (n : ℕ). free ≤ n) (are_free (moment seat_view e)) steps.2;
+  unchosen = λ before after e f steps. subst (λ (n : ℕ). n < free) (are_free (moment seat_view e)) steps.few;
+  begun = λ before after e f steps. subst (λ (n : ℕ). n < free) (are_free (moment seat_view e)) steps.2.few;
+}

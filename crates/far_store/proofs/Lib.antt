@@ -7,4 +7,5 @@ pub mod Parts
 pub mod Shares
 pub mod Slices
 pub mod Steps
+pub mod Totals
 pub mod Zeros

@@ -1,10 +1,12 @@
 -- Counts of what was done.
-use Rattle.std.specs.Prelude.{◌≡◌, ℕ, ◌+◌, ◌-◌, ◌^◌, min, true, false, List, [], ◌∷◌, ◌++◌}
+use Rattle.std.specs.Prelude.{◌≡◌, ℕ, ◌+◌, ◌-◌, ◌^◌, min, true, false, List, [], ◌∷◌, ◌++◌, Result, Ok, Err}
 use Rattle.std.specs.List.{count_by, sum_by}
 use Rattle.far_evac.specs.declared.answers.Progress.{Progress}
 use Rattle.far_store.specs.declared.counts.Counts.{Counts}
+use Rattle.far_store.specs.declared.desk.Told.{Told}
 use Rattle.far_store.specs.declared.room.Made.{Made}
 use Rattle.far_store.specs.declared.room.Made.TheVariants.{Begun, Enough, Turned, Unchosen}
+use Rattle.far_store.specs.declared.shard.StoreFault.{StoreFault}
 
 -- a sum as it is told: the greatest number stands for all above it
 abbrev pub told : ℕ → ℕ
@@ -40,6 +42,21 @@ turns_of (Turned turn) = turn ∷ []
 abbrev pub turns_in : List Made → List Progress
 turns_in [] = []
 turns_in (made ∷ steps) = turns_in steps ++ turns_of made
+
+-- what a shard told of its calls, if it was refused nothing
+abbrev pub counts_by : Result Told StoreFault → Counts
+counts_by (Ok shard) = shard.counts
+counts_by (Err why) = record { fetches = 0; evictions = 0; moves = 0; rounds = 0; waits = 0 }
+
+-- what these shards told together
+abbrev pub counts_told : List (Result Told StoreFault) → Counts
+counts_told shards = record {
+  fetches = told (sum_by (λ (shard : Result Told StoreFault). (counts_by shard).fetches) shards);
+  evictions = told (sum_by (λ (shard : Result Told StoreFault). (counts_by shard).evictions) shards);
+  moves = told (sum_by (λ (shard : Result Told StoreFault). (counts_by shard).moves) shards);
+  rounds = told (sum_by (λ (shard : Result Told StoreFault). (counts_by shard).rounds) shards);
+  waits = told (sum_by (λ (shard : Result Told StoreFault). (counts_by shard).waits) shards);
+}
 
 -- ---- worked: two turns, the second the round's last
 abbrev pub first_turn : Progress

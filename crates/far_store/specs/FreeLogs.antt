@@ -1,8 +1,9 @@
 -- How many logs were free, and what was done about it, while a heap's lock was held.
-use Rattle.std.specs.Prelude.{◌≡◌, ◌≢◌, ◌⊎◌, ◌<◌, ◌≤◌, ℕ, zero, suc, ◌+◌, true, false, Option, Some, None, List, [], ◌∷◌, Result, Ok, Err}
+use Rattle.std.specs.Prelude.{◌≡◌, ◌≢◌, ◌⊎◌, ◌<◌, ◌≤◌, ℕ, zero, suc, ◌+◌, true, false, Option, Some, None, List, [], ◌∷◌, length, Result, Ok, Err}
 use Rattle.far_log.specs.declared.row.LogRow.{LogRow}
 use Rattle.far_word.specs.declared.refused.Refused.{Refused}
 use Rattle.far_word.specs.declared.refused.Refused.TheVariants as refused
+use Rattle.far_core.specs.state.Room.{free_logs}
 use Rattle.far_device.specs.declared.fault.DeviceFault.{DeviceFault}
 use Rattle.far_table.specs.declared.book.BookSeat.{BookSeat}
 use Rattle.far_table.specs.BookSeats.{seat_makes, seat_view}
@@ -94,6 +95,12 @@ module _ {P D : Type 0} (gives : P → List LogRow → ℕ → Result (List ℕ)
   Steps before step.Unchosen after e f = Begins gives heap free most before step.Unchosen after e f
   Steps before step.Begun after e f = Begins gives heap free most before step.Begun after e f
   Steps before (step.Turned turn) after e f = Turned writes lets_go contents heap turn e f × (after ≡ before)
+
+  -- how steps go by the logs that a book may give out: none begins a round where they are enough, and the policy is asked only where they are too few
+  pub record GoByFreeLogs : Type 0 where
+    pub enough : (before after : P) (e f : EvacOf (BookSeat D) D) → Steps before step.Enough after e f → free ≤ length (free_logs (seat_view e.book.near))
+    pub unchosen : (before after : P) (e f : EvacOf (BookSeat D) D) → Steps before step.Unchosen after e f → length (free_logs (seat_view e.book.near)) < free
+    pub begun : (before after : P) (e f : EvacOf (BookSeat D) D) → Steps before step.Begun after e f → length (free_logs (seat_view e.book.near)) < free
 
   -- why a step wasn't made
   abbrev pub Unmakes : P → EvacFault → P → EvacOf (BookSeat D) D → EvacOf (BookSeat D) D → Type 0

@@ -175,17 +175,17 @@ impl<K: HeapName, D: Device + Drop> Desk<K, D> {
         self.check(rt, waiter, at)
     }
 
-    // The same so many times: how often it was done.
+    // The same so many times. Only that is counted.
     fn use_some<R: Wait>(
         &mut self,
         rt: &R,
         waiter: &Waiter<'_>,
         random: &mut Random,
         operations: u64,
-    ) -> Result<u64, StoreFault>
+    ) -> Result<(), StoreFault>
         requires { 0 < operations → 0 < self.old.shard.part.count }
         ensures part { self.new.shard.part ≡ self.old.shard.part }
-        ensures made { IfOk result (λ made. made ≡ operations) }
+        ensures made { OnOk result (self.new.made ≡ operations) }
     {
         self.made = 0;
         for _ in 0..operations {
@@ -194,7 +194,7 @@ impl<K: HeapName, D: Device + Drop> Desk<K, D> {
                 Err(why) => return Err(why),
             }
         }
-        Ok(self.made)
+        Ok(())
     }
 
     // Reads all records, one after the other.
@@ -218,6 +218,25 @@ impl<K: HeapName, D: Device + Drop> Desk<K, D> {
             digest = digested(digest, record);
         }
         digest
+    }
+
+    // What came of the work: all records are read once more, one after the other, and nothing is done with them after that.
+    fn finished<R: Wait>(mut self, rt: &R, waiter: &Waiter<'_>) -> Result<Told, StoreFault>
+        ensures right { K.heap.honest ≡ true → IfOk result (λ told. told.wrong ≡ 0) }
+        ensures made { IfOk result (λ told. told.operations ≡ self.made) }
+        ensures records { IfOk result (λ told. told.records ≡ self.shard.part.count) }
+    {
+        let operations = self.made;
+        if let Err(why) = self.check_all(rt, waiter) {
+            return Err(why);
+        }
+        Ok(Told {
+            records: self.read,
+            operations,
+            wrong: self.wrong,
+            digest: self.digest(),
+            counts: self.shard.counts(),
+        })
     }
 }
 
@@ -274,18 +293,11 @@ pub fn work<K: HeapName, D: Device + Drop, R: Wait>(
     if let Err(why) = desk.fill(rt, &waiter, &mut random) {
         return Err(why);
     }
-    let operations = match desk.use_some(rt, &waiter, &mut random, job.operations) {
-        Ok(made) => made,
-        Err(why) => return Err(why),
-    };
-    if let Err(why) = desk.check_all(rt, &waiter) {
+    if let Err(why) = desk.use_some(rt, &waiter, &mut random, job.operations) {
         return Err(why);
     }
-    Ok(Told {
-        records: desk.read,
-        operations,
-        wrong: desk.wrong,
-        digest: desk.digest(),
-        counts: desk.shard.counts(),
-    })
+    match desk.finished(rt, &waiter) {
+        Ok(told) => Ok(told),
+        Err(why) => Err(why),
+    }
 }

@@ -1,10 +1,12 @@
 //! A store: shards in threads, and a thread that keeps logs free for them.
 
-ghost use Rattle.std.specs.Prelude.{◌≡◌, ◌≤◌, ◌<◌, ◌+◌, ℕ, min, true, List, map, sum, IfOk};
+ghost use Rattle.std.specs.Prelude.{◌≡◌, ◌↔◌, ◌⊎◌, ◌≤◌, ◌<◌, ◌+◌, ◌*◌, ℕ, min, true, List, map, sum, Ok, Err, Contains, IfOk, IfErr};
 ghost use Rattle.std.specs.Vec.{vec_len};
-ghost use Rattle.far_store.specs.Counting.{told};
+ghost use Rattle.far_evac.specs.declared.answers.Progress.{Progress as progress};
+ghost use Rattle.far_store.specs.Counting.{counted_with, counts_told, told};
 ghost use Rattle.far_store.specs.Kept.{AreMade, AreRead, AreRight, IsMade, IsRead, IsRight, sum_over};
 ghost use Rattle.far_store.specs.Part.{AreEven, AreParts, IsEvenShare, IsPart, sharers};
+ghost use Rattle.far_store.specs.declared.desk.Told.{Told as any_told};
 
 use crate::asked::Asked;
 use crate::counts::Counts;
@@ -61,10 +63,11 @@ impl RunFault {
 /// Of how many logs a round is made at most.
 const MOST_LOGS: usize = 4;
 
-// How many logs are kept free: as long as one alone is, no object comes near.
+// How many logs are kept free: as long as one alone is, no object comes near. Three of four at least are for objects.
 fn kept_free(asked: Asked) -> u64
     ensures least { 2 ≤ result }
     ensures most { result + 2 ≤ asked.logs }
+    ensures few { 4 * result ≤ asked.logs }
 {
     asked.logs / 16 + 2
 }
@@ -126,11 +129,14 @@ fn jobs_of<K: HeapName, D: Device + Drop>(
     Ok(jobs)
 }
 
-// What all shards were told, if none was refused anything: as many operations as they were to make together, and as many records as they have.
+// What all shards were told, if none was refused anything: as many operations as they were to make together, as many records as they have, and what their calls
+// took together. Else why one of them was refused.
 fn sum_of(shards: &[Result<Told, StoreFault>]) -> Result<Told, StoreFault>
     ensures right { AreRight shards.now → IsRight result }
     ensures made { (due : List ℕ) → AreMade due shards.now → IsMade (told (sum due)) result }
     ensures records { (due : List ℕ) → AreRead due shards.now → IsRead (told (sum due)) result }
+    ensures counts { IfOk result (λ told. told.counts ≡ counts_told shards.now) }
+    ensures refused { IfErr result (λ why. Contains shards.now (Err why)) }
 {
     let mut all = Told {
         records: 0,
@@ -156,7 +162,7 @@ fn sum_of(shards: &[Result<Told, StoreFault>]) -> Result<Told, StoreFault>
     Ok(all)
 }
 
-// What came of all threads' work.
+// What came of all threads' work. What the shards' calls took and what the rounds did is counted, each once.
 fn ended(
     worked: Result<Vec<Result<Told, StoreFault>>, AllocError>,
     counts: Counts,
@@ -165,6 +171,8 @@ fn ended(
     ensures right { IfOk worked (λ shards. AreRight shards.items) → IsRight result }
     ensures made { (due : List ℕ) → IfOk worked (λ shards. AreMade due shards.items) → IsMade (told (sum due)) result }
     ensures records { (due : List ℕ) → IfOk worked (λ shards. AreRead due shards.items) → IsRead (told (sum due)) result }
+    ensures counts { IfOk result (λ told. IfOk worked (λ shards. told.counts ≡ counted_with (counts_told shards.items) counts)) }
+    ensures round { IfErr kept (λ fault. result ≡ Err (RunFault.Round fault)) }
 {
     if let Err(fault) = kept {
         return Err(RunFault::Round(fault));
@@ -201,7 +209,10 @@ fn work_all<K: HeapName + Send + Sync, D: Device + Drop + Send, R: Threads + Wai
 }
 
 // What a step of the thread that keeps logs free came to: a turn that gave logs back, or ended its round, made room.
-fn found(made: Made) -> Found {
+fn found(made: Made) -> Found
+    ensures enough { (result ≡ Found.Enough) ↔ (made ≡ Made.Enough) }
+    ensures made { (result ≡ Found.Made) ↔ ((turn : progress) × (made ≡ Made.Turned turn) × ((0 < turn.freed) ⊎ (turn.done ≡ true))) }
+{
     match made {
         Made::Enough => Found::Enough,
         Made::Turned(turn) if turn.freed > 0 || turn.done => Found::Made,
@@ -261,6 +272,7 @@ fn begun<K: HeapName + Send + Sync, D: Device + Drop + Send, R: Threads + Wait +
     asked: Asked,
 ) -> Result<Told, RunFault>
     requires name { blank.heap ≡ K.heap }
+    requires logs { blank.heap.logs ≡ asked.logs }
     requires many { blank.heap.mutators ≡ asked.mutators }
     ensures right { K.heap.honest ≡ true → IsRight result }
     ensures made { IsMade asked.operations result }
@@ -299,11 +311,12 @@ pub fn over<D: Device + Drop + Send, R: Threads + Wait + Sync>(
     }
 }
 
-// With the device's own reason, if it refused something.
+// With the device's own reason, if it refused something. What was done is told as it is.
 fn with_reason(ended: Result<Told, RunFault>, last: &LastFault) -> Result<Told, RunFault>
     ensures right { IsRight ended → IsRight result }
     ensures made { (due : ℕ) → IsMade due ended → IsMade due result }
     ensures records { (due : ℕ) → IsRead due ended → IsRead due result }
+    ensures same { (told : any_told) → ended ≡ Ok told → result ≡ Ok told }
 {
     if let Err(fault) = ended {
         if fault.is_of_device() {

@@ -1,6 +1,10 @@
-use Rattle.std.proofs.Common.{◌<◌, ◌≤◌, arith, length, rules}
+use Rattle.std.proofs.Common.{◌<◌, ◌≤◌, ◌∙◌, Err, ap, arith, length, rules}
+use Rattle.std.proofs.lemmas.List.{get_or_default, take_all}
+use Rattle.far_store.specs.Counting.{counted_with, counts_told}
+use Rattle.far_store.specs.declared.counts.Counts.{Counts}
 use Rattle.far_store.specs.declared.desk.Told.{Told}
 use Rattle.far_store.proofs.Shares.{told_more, told_whole}
+use Rattle.far_store.proofs.Totals.{told_together}
 use Rattle.far_store.proofs.store.sum_of.Goals as goal
 
 pub loop-shard-preserved : goal.loop-shard-preserved
@@ -16,6 +20,9 @@ loop-shard-preserved c =
       records = λ due are.
           let more = told_more (λ (told : Told). told.records) due shards c.loop-shard.shard-index _ c.in-Ok.told c.loop-shard.all.records lt c.in-Ok.is are (i.records due are) in
           omega (arith, more, c.saturating_add.ensures);
+      counts =
+          c.with.ensures ∙ ap (λ (all : Counts). counted_with all c.in-Ok.told.counts) i.counts
+          ∙ told_together shards c.loop-shard.shard-index _ c.in-Ok.told lt c.in-Ok.is;
     }
 
 pub returns-clause-made : goal.returns-clause-made
@@ -27,3 +34,13 @@ pub returns-clause-records : goal.returns-clause-records
 returns-clause-records c =
     let whole : length c.args.shards.now ≤ c.loop-shard.shard-index = omega arith in
     λ due are. told_whole (λ (told : Told). told.records) due c.args.shards.now c.loop-shard.shard-index c.loop-shard.all.records whole are (c.loop-shard.invariant.records due are)
+
+pub returns-clause-counts : goal.returns-clause-counts
+returns-clause-counts c =
+    let whole : length c.args.shards.now ≤ c.loop-shard.shard-index = omega arith in
+    c.loop-shard.invariant.counts ∙ ap counts_told (take_all c.loop-shard.shard-index c.args.shards.now whole)
+
+pub returns-in-Err-clause-refused : goal.returns-in-Err-clause-refused
+returns-in-Err-clause-refused c =
+    let lt : c.loop-shard.shard-index < length c.args.shards.now = omega arith in
+    (c.loop-shard.shard-index, lt, get_or_default c.args.shards.now c.loop-shard.shard-index (Err c.in-Err.why) _ lt ∙ c.in-Err.is)
