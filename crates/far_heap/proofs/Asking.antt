@@ -10,6 +10,7 @@ use Rattle.far_word.specs.declared.refused.Refused.TheVariants.{NoRoom, NotHeld}
 use Rattle.far_heap.specs.declared.view.Tried.{Tried}
 use Rattle.far_heap.specs.declared.view.Tried.TheVariants.{View as Viewed, Slow}
 use Rattle.far_heap.specs.declared.view.View.{View}
+use Rattle.far_heap.specs.Made.{Pinned}
 use Rattle.far_heap.specs.Mine.{Asks, AsksToView, IsNoView, IsRefusedView, IsUnbrought, Mine, TriedSo, asking, uses, view_of, viewing, views}
 
 row_none : (xs : List ℕ) (i : ℕ) → set xs i (get_or xs i 0 + 0) ≡ xs
@@ -70,3 +71,12 @@ slow_views p m b n tried word why so is none brought =
 -- the view that is made then
 pub view_made : (p : ℕ) (m n : Mine) (view : View) → uses m p ≡ true → AsksToView p m n → view ≡ view_of p n → (uses m p ≡ true) × (view ≡ view_of p m) × AsksToView p m n
 view_made p m n view used asks is = (used, is ∙ ap (view_of p) asks.1, asks)
+
+-- a try that gave a view was one pin
+pub quick_pins : (p : ℕ) (m n : Mine) (tried : Tried) → Pinned p m tried n → ((word : ℕ) → tried ≡ Slow word → ⊥) → Pinned p m (Viewed (view_of p m)) n
+quick_pins p m n (Viewed view) made other = made
+quick_pins p m n (Slow word) made other = absurd (other word refl)
+
+-- what is said of what wasn't refused
+pub unrefused : {X : Type 0} (why : Option Refused) → why ≡ None → IfNone why X → X
+unrefused {X} why is said = subst (λ (o : Option Refused). IfNone o X) is said

@@ -27,3 +27,4 @@ pub mod Bringing
 pub mod Resting
 pub mod Refusals
 pub mod Known
+pub mod ValueLaws

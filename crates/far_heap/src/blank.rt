@@ -39,7 +39,7 @@ impl<D: Device + Drop> Model for Blank<D> {
 }
 
 impl<D: Device + Drop> Blank<D> {
-    /// Makes the parts of a heap of 2 to 64 logs and 1 to 8 mutators, at the epoch of the shape, below 2^62, over a device that holds nothing yet: all cells are free, and
+    /// Makes the parts of a heap of 2 to 64 logs and 1 to 8 mutators, at the epoch of the shape, below 2^62, over a device, whatever that holds: all cells are free, and
     /// so are all logs but the first, which is open and empty. All room of the shared words, of the seats and of the book is taken here.
     ///
     /// Refused, in this order: [`Refused::Shape`] exactly where the shape is out of range, [`Refused::Memory`]. The device is dropped then.

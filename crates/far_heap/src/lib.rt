@@ -26,7 +26,7 @@ pub use blank::Blank;
 pub use copier::{Copier, Copying};
 pub use evacuator::Evacuator;
 pub use heap::Heap;
-pub use laws::{reads_give_last_writes, refusals_are_so};
+pub use laws::{reads_give_last_writes, refusals_are_so, values_come_back};
 pub use lending::{Closing, lend};
 pub use mutator::Mutator;
 pub use name::HeapName;

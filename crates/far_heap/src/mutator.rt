@@ -2,7 +2,8 @@
 ghost use Rattle.std.specs.Prelude.{◌≡◌, ◌<◌, ◌≤◌, true, false, None, IfOk, IfErr, IfSome};
 ghost use Rattle.far_heap.specs.Mine.{IsNew, IsOf, dropping, ds_in, len_in, newcomer, opening, uses};
 ghost use Rattle.far_heap.specs.MineLaw.{MineLaw};
-ghost use Rattle.far_heap.specs.BookHad.{Allocates, BookHad, IsFreed};
+ghost use Rattle.far_heap.specs.BookHad.{Allocates, BookDid, BookHad, IsFreed};
+ghost use Rattle.far_heap.specs.Helping.{LooksAndRetires};
 ghost use Rattle.far_word.specs.declared.refused.Refused.{Refused as any_refusal};
 ghost use Rattle.far_word.specs.declared.sizes.TheConstants.{LONGEST, MOST_MUTATORS};
 
@@ -107,14 +108,15 @@ impl<K: HeapName, D: Device + Drop> Mutator<K, D> {
         self.own.used_structure(p)
     }
 
-    /// Drops an object, which the mutator uses no longer. It takes the lock. Refused [`Refused::NotHeld`] alone, exactly where the mutator doesn't use
-    /// the pointer; nothing has changed then.
+    /// Drops an object, which the mutator uses no longer. It takes the lock, and in the last hold retires the object if its cell is found with DROP, and does nothing
+    /// else. Refused [`Refused::NotHeld`] alone, exactly where the mutator doesn't use the pointer; nothing has changed then.
     #[tactic(auto, using(crate::proofs::MineLaws::drop_unheld, crate::proofs::MineLaws::drop_used))]
     #[inline(always)]
     pub fn drop_object<R: Wait>(&mut self, rt: &R, p: u16) -> Result<(), Refused>
         ensures refused { IfErr result (λ why. (why ≡ Refused.NotHeld) × (uses self.old p ≡ false) × (self.new ≡ self.old)) }
         ensures dropped { IfOk result (λ _. (uses self.old p ≡ true) × (self.new ≡ dropping p self.old)) }
         ensures freed { IfOk result (λ _. BookHad D K.heap (IsFreed p)) }
+        ensures did { IfOk result (λ _. BookDid D K.heap (LooksAndRetires D.contents D.honest D.faults D.fails_at_most D.lets_go D.forgets p)) }
     {
         self.keeps_law();
         under_lock::drop_object(rt, &self.lock, &mut self.own, p)

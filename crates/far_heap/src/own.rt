@@ -3,7 +3,9 @@ ghost use Rattle.std.specs.Prelude.{◌≡◌, ◌+◌, ◌<◌, ◌≤◌, ℕ,
 ghost use Rattle.far_table.specs.Views.{said_ds, said_len};
 ghost use Rattle.far_word.specs.Pointer.{read_of};
 ghost use Rattle.far_core.specs.events.Quiet.{has_move};
-ghost use Rattle.far_heap.specs.Made.{Pinned};
+ghost use Rattle.far_core.specs.declared.event.Event.TheVariants.{Adopt};
+ghost use Rattle.far_core.specs.declared.event.Reply.TheVariants.{Word};
+ghost use Rattle.far_heap.specs.Made.{FindsOther, MadeBy, Pinned, RefusedBy};
 ghost use Rattle.far_heap.specs.MineLaw.{MineLaw};
 ghost use Rattle.far_heap.specs.LogsStay.{LogsStay};
 ghost use Rattle.far_heap.specs.SoiledIsDirty.{SoiledIsDirty};
@@ -239,6 +241,8 @@ impl<K: HeapName, D: Device> Own<K, D> {
         requires unused { uses self.old p ≡ false }
         ensures adopted { IfSome result (λ said. (0 < said.0) × (said.0 ≤ LONGEST) × (self.new ≡ adopting p said.0 said.1 self.old)) }
         ensures kept { result ≡ None → self.new ≡ self.old }
+        ensures found { IfSome result (λ said. (word : ℕ) × MadeBy (Adopt self.old.number p) self.old (Word word) self.new × (said.0 ≡ said_len (read_of word)) × (said.1 ≡ said_ds (read_of word))) }
+        ensures refused { result ≡ None → RefusedBy (Adopt self.old.number p) self.old }
     {
         let Some(word) = self.seat.adopt(p) else {
             return None;
@@ -254,6 +258,7 @@ impl<K: HeapName, D: Device> Own<K, D> {
         requires { owns self.old p ≡ true }
         ensures adopted { result ≡ true → (uses self.old p ≡ false) × (self.new ≡ adopting p len ds self.old) }
         ensures kept { result ≡ false → self.new ≡ self.old }
+        ensures other { result ≡ false → uses self.old p ≡ false → FindsOther p len ds self.old }
     {
         let _number = self.number;
         if self.has(p) {

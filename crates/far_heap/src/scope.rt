@@ -6,7 +6,8 @@ ghost use Rattle.far_heap.specs.MineLaw.{MineLaw};
 ghost use Rattle.far_heap.specs.LogsStay.{LogsStay};
 ghost use Rattle.far_heap.specs.SoiledIsDirty.{SoiledIsDirty};
 ghost use Rattle.far_heap.specs.Mine.{Asks, AsksToView, IsNoView, IsOf, SoilsOne, TriedSo, access_refusal, bytes_in, closing, drop_refusal, dropping, ds_in, len_in, soils, uses, view_of, viewing, views, writing};
-ghost use Rattle.far_heap.specs.BookHad.{Allocates, BookHad, IsAnswered, IsFreed, Unbrought};
+ghost use Rattle.far_heap.specs.BookHad.{Allocates, BookDid, BookHad, IsAnswered, IsFreed, Unbrought};
+ghost use Rattle.far_heap.specs.Helping.{BringsSo, LooksAndRetires};
 ghost use Rattle.far_word.specs.declared.refused.Refused.{Refused as any_refusal};
 ghost use Rattle.far_word.specs.declared.refused.Refused.TheVariants.{Damaged, Memory, NoRoom};
 ghost use Rattle.far_word.specs.declared.sizes.TheConstants.{LONGEST};
@@ -63,7 +64,8 @@ impl<K: HeapName, D: Device + Drop> Scope<K, D> {
     }
 
     /// No log is given back, nor taken anew, in which an object lies that the scope views, whatever others do: each is held at its place by the seat of the
-    /// scope's mutator, and in each state that the words and all views may be in beside that seat its log stays. The call does nothing.
+    /// scope's mutator, and in each state that the words and all views may be in beside that seat its log stays. How often the mutator set MOVE anew is as its seat
+    /// counted. The call does nothing.
     pub fn no_log_is_given_out_under_a_view(&self)
         ensures { LogsStay K.heap self.now }
     {
@@ -113,12 +115,15 @@ impl<K: HeapName, D: Device + Drop> Scope<K, D> {
         ensures refused { IfErr result (λ why. (drop_refusal self.old p ≡ Some why) × (self.new ≡ self.old)) }
         ensures dropped { IfOk result (λ _. (drop_refusal self.old p ≡ None) × (self.new ≡ dropping p self.old)) }
         ensures freed { IfOk result (λ _. BookHad D K.heap (IsFreed p)) }
+        ensures did { IfOk result (λ _. BookDid D K.heap (LooksAndRetires D.contents D.honest D.faults D.fails_at_most D.lets_go D.forgets p)) }
     {
         under_lock::drop_object(rt, &self.lock, &mut self.own, p)
     }
 
     /// Dereferences a pointer. As [`Scope::try_view`] where that views it; else it takes the lock, and has the object brought where it can be viewed: a far
     /// one is fetched, and one that a round wants is moved to another log.
+    ///
+    /// Where one pin didn't view it, the last hold of the lock fetched this object, or looked at it again and moved it, and did nothing else.
     ///
     /// Refused [`Refused::NotHeld`] exactly where this mutator doesn't use the pointer; and, never where the scope views it already, [`Refused::NoRoom`]
     /// only where, as the lock was held, there was no room for it where it was to come; where there was, and it was far, [`Refused::Memory`] or
@@ -138,6 +143,7 @@ impl<K: HeapName, D: Device + Drop> Scope<K, D> {
         ensures again { views self.old p ≡ true → (result ≡ Ok (view_of p self.old)) × (self.new ≡ self.old) }
         ensures quick { views self.old p ≡ false → IfOk result (λ _. (self.new ≡ viewing p self.old) ⊎ IsFoundSlow p self.old) }
         ensures slow { uses self.old p ≡ true → IfErr result (λ _. IsFoundSlow p self.old) }
+        ensures brought { views self.old p ≡ false → IfOk result (λ _. Pinned p self.old (Tried.View (view_of p self.old)) self.new ⊎ BookDid D K.heap (BringsSo D.contents D.honest D.faults D.fails_at_most D.lets_go D.forgets D.reads D.reads_in_place p true)) }
     {
         let tried = match self.own.try_view(p) {
             Ok(tried) => tried,

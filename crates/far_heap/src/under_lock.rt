@@ -2,7 +2,7 @@
 ghost use Rattle.std.specs.Prelude.{◌≡◌, ◌≢◌, ◌⊎◌, ◌/◌, ◌<◌, ◌≤◌, true, false, Ok, Err, Some, None, IfOk, IfErr, IfSome, IfNone};
 ghost use Rattle.far_heap.specs.Mine.{Asks, AsksToView, IsUnbrought, drop_refusal, dropping, refusal_of, uses, viewing, views};
 ghost use Rattle.far_evac.specs.EvacOf.{SameRound};
-ghost use Rattle.far_heap.specs.Helping.{IsBrought};
+ghost use Rattle.far_heap.specs.Helping.{BringsSo, IsBrought, LooksAndRetires};
 ghost use Rattle.far_heap.specs.BookHad.{Allocates, BookDid, BookHad, HasRoom, IsAnswered, IsFreed, LacksRoom, LeavesIt, NoneFree, Places, Unbrought};
 ghost use Rattle.far_word.specs.declared.refused.Refused.{Refused as any_refusal};
 ghost use Rattle.far_word.specs.declared.refused.Refused.TheVariants.{Memory, NoPointer, NoRoom};
@@ -82,6 +82,7 @@ pub(crate) fn drop_object<K: HeapName, D: Device + Drop, R: Wait>(
     ensures refused { IfErr result (λ why. (drop_refusal own.old p ≡ Some why) × (own.new ≡ own.old)) }
     ensures dropped { IfOk result (λ _. (drop_refusal own.old p ≡ None) × (own.new ≡ dropping p own.old)) }
     ensures freed { IfOk result (λ _. BookHad D K.heap (IsFreed p)) }
+    ensures did { IfOk result (λ _. BookDid D K.heap (LooksAndRetires D.contents D.honest D.faults D.fails_at_most D.lets_go D.forgets p)) }
 {
     if !own.has(p) {
         return Err(Refused::NotHeld);
@@ -119,6 +120,7 @@ pub(crate) fn view<K: HeapName, D: Device + Drop, R: Wait>(
     ensures in_place { D.reads_in_place → refusal_of result ≢ Some Memory }
     ensures unasked { IfSome (refusal_of result) (λ why. (why ≡ NoRoom) ⊎ (own.new ≡ own.old)) }
     ensures viewed { IfNone (refusal_of result) (AsksToView p own.old own.new) }
+    ensures brought { IfNone (refusal_of result) (BookDid D K.heap (BringsSo D.contents D.honest D.faults D.fails_at_most D.lets_go D.forgets D.reads D.reads_in_place p true)) }
 {
     let mut first = true;
     for _ in rt.forever() {
@@ -155,6 +157,8 @@ fn bring<K: HeapName, D: Device + Drop>(
     ensures in_place { D.reads_in_place → result ≢ Err Memory }
     ensures viewed { result ≡ Ok true → AsksToView p own.old own.new }
     ensures slow { result ≡ Ok false → Asks p own.old own.new }
+    ensures did { IfOk result (λ viewed. BringsSo D.contents D.honest D.faults D.fails_at_most D.lets_go D.forgets D.reads D.reads_in_place p true book.old book.new ⊎ ((viewed ≡ false) × BringsSo D.contents D.honest D.faults D.fails_at_most D.lets_go D.forgets D.reads D.reads_in_place p false book.old book.new)) }
+    ensures brought { result ≡ Ok true → BookDid D K.heap (BringsSo D.contents D.honest D.faults D.fails_at_most D.lets_go D.forgets D.reads D.reads_in_place p true) }
     ensures round { SameRound book.old book.new }
 {
     book.keeps_law();
@@ -200,6 +204,7 @@ fn fetch_or_move<K: HeapName, D: Device + Drop>(
     ensures in_place { D.reads_in_place → result ≢ Err Memory }
     ensures brought { result ≡ Ok true → IsBrought D.contents D.honest D.faults D.fails_at_most D.lets_go D.forgets D.reads D.reads_in_place book.new p }
     ensures asks { Asks p own.old own.new }
+    ensures did { IfOk result (λ so. BringsSo D.contents D.honest D.faults D.fails_at_most D.lets_go D.forgets D.reads D.reads_in_place p so book.old book.new) }
     ensures round { SameRound book.old book.new }
 {
     if let Some(fetched) = book.fetch_far(p) {

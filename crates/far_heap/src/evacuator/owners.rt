@@ -13,9 +13,9 @@ ghost use Rattle.far_table.specs.declared.book.BookSeat.{BookSeat as seat_of};
 ghost use Rattle.far_book.specs.book.Home.{home_of};
 ghost use Rattle.far_book.specs.book.Ledger.{IsLowestFree};
 ghost use Rattle.far_evac.specs.EvacOf.{EvacOf, SameRound};
-ghost use Rattle.far_heap.specs.Helping.{FetchesIt, Looks, MovesIt, PlacesNew, RetiresIt, asks_move, cell_in, says_far};
+ghost use Rattle.far_heap.specs.Helping.{FetchesIt, Looks, LooksAndRetires, MovesIt, PlacesNew, asks_move, cell_in, says_far};
 ghost use Rattle.far_heap.specs.Mine.{IsUnbrought};
-ghost use Rattle.far_heap.specs.BookHad.{BookHad, IsFreed, LacksRoom, NoneFree, Unbrought};
+ghost use Rattle.far_heap.specs.BookHad.{BookDid, BookHad, IsFreed, LacksRoom, NoneFree, Unbrought};
 
 use crate::evacuator::{Evacuator, held};
 use crate::name::HeapName;
@@ -117,9 +117,8 @@ impl<K: HeapName, D: Device + Drop> Evacuator<K, D> {
     pub(crate) fn retire_dropped(&mut self, asked: DropAsked) -> Option<DropAsked>
         requires pointer { asked.pointer < CELLS * K.heap.mutators }
         ensures round { SameRound self.old self.new }
-        ensures retired { (found : EvacOf (seat_of D) D) × Looks self.old found asked.pointer
-            × (is_dropped (cell_in found asked.pointer) ≡ true → RetiresIt D.contents D.honest D.faults D.fails_at_most D.lets_go D.forgets found self.new asked.pointer)
-            × (is_dropped (cell_in found asked.pointer) ≡ false → self.new ≡ found) }
+        ensures retired { LooksAndRetires D.contents D.honest D.faults D.fails_at_most D.lets_go D.forgets asked.pointer self.old self.new }
+        ensures did { BookDid D K.heap (LooksAndRetires D.contents D.honest D.faults D.fails_at_most D.lets_go D.forgets asked.pointer) }
         ensures freed { IfNone result (BookHad D K.heap (IsFreed asked.pointer)) }
         ensures again { IfSome result (λ again. again.pointer ≡ asked.pointer) }
     {

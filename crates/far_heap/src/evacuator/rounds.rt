@@ -36,8 +36,8 @@ impl<K: HeapName, D: Device + Drop> Evacuator<K, D> {
         self.evac.mark_some(n)
     }
 
-    /// Looks at the scopes of the owners that weren't seen clear in this round. [`Polled::Clear`] where all are closed, or were opened since the epoch
-    /// rose: nobody views anything in the chosen logs then. Else the first other, with the epoch at which its scope was seen open.
+    /// Looks at the scopes of the owners that weren't seen clear in this round. [`Polled::Clear`] where all are closed, or open at the
+    /// new epoch: nobody views anything in the chosen logs then. Else the first other, with the epoch at which its scope was seen open.
     /// Refused [`Refused::Phase`] exactly where the round isn't waiting; nothing has changed then.
     pub fn poll_wait(&mut self) -> Result<Polled, Refused>
         ensures { PollsOwners ⊥ seat_view seat_makes seat_may_be self.old self.new result }

@@ -6,10 +6,10 @@ use Rattle.far_word.specs.declared.sizes.TheConstants.{CELLS}
 use Rattle.far_table.specs.declared.book.BookSeat.{BookSeat}
 use Rattle.far_evac.specs.EvacOf.{EvacOf}
 use Rattle.far_heap.specs.BookHad.{BookHad, LeavesIt, Unbrought}
-use Rattle.far_heap.specs.Helping.{IsBrought, Looks}
+use Rattle.far_heap.specs.Helping.{IsBrought, Looks, asks_move, cell_in, says_far}
 use Rattle.far_heap.specs.Mine.{IsUnbrought, Mine, Object, owns, uses}
 use Rattle.far_heap.proofs.Asking.{asks_none}
-use Rattle.far_heap.proofs.Bringing.{brought_by}
+use Rattle.far_heap.proofs.Bringing.{brought_by, fetched_so, moved_so, stayed_so}
 use Rattle.far_heap.proofs.Leaving.{fetch_leaves, move_leaves}
 use Rattle.far_heap.proofs.under_lock.fetch_or_move.Goals as goal
 
@@ -125,3 +125,30 @@ returns-in-Some-Ok-clause-asks g c = (_, c.ask_move-asked.ensures.asked)
 
 pub returns-in-Some-Err-clause-asks : goal.returns-in-Some-Err-clause-asks
 returns-in-Some-Err-clause-asks g c = (_, c.ask_move-asked.ensures.asked)
+
+pub returns-in-Ok-clause-did : goal.returns-in-Ok-clause-did
+returns-in-Ok-clause-did g c =
+    let f = c.in-Some.ensures.fetched in
+    fetched_so _ _ _ _ _ _ c.args.book.now c.fetch_far.new.self c.args.p _ _ f.0 c.in-Some.fetched c.in-Ok.place c.is_some.result f.1 f.2.0 f.2.1 c.in-Ok.is c.is_some.ensures
+
+pub returns-in-Some-Ok-clause-did : goal.returns-in-Some-Ok-clause-did
+returns-in-Some-Ok-clause-did g c =
+    let p : ℕ = c.args.p in
+    let other = c.in_default.ensures.fetched in
+    let looks = subst (λ (e : EvacOf (BookSeat g.row.D.Denot) g.row.D.Denot). Looks c.args.book.now e p) (sym other.2.1) other.1 in
+    let near = subst (λ (e : EvacOf (BookSeat g.row.D.Denot) g.row.D.Denot). says_far (cell_in e p) ≡ false) (sym other.2.1) other.2.0 in
+    let m = c.in-Some-Ok.ensures.moved in
+    moved_so _ _ _ _ _ _ c.args.book.now c.move_asked.new.self p _ _ c.fetch_far.new.self m.0 c.ask_move-asked.result.pointer c.in-Some-Ok.field-0 c.in-Some-Ok.place c.is_some-in-Some-Ok.result
+    c.ask_move-asked.ensures.pointer looks near m.1 m.2.0 m.2.1 c.in-Some-Ok.field-0-is c.is_some-in-Some-Ok.ensures
+
+pub returns-in-None-clause-did : goal.returns-in-None-clause-did
+returns-in-None-clause-did g c =
+    let p : ℕ = c.args.p in
+    let other = c.in_default.ensures.fetched in
+    let looks = subst (λ (e : EvacOf (BookSeat g.row.D.Denot) g.row.D.Denot). Looks c.args.book.now e p) (sym other.2.1) other.1 in
+    let near = subst (λ (e : EvacOf (BookSeat g.row.D.Denot) g.row.D.Denot). says_far (cell_in e p) ≡ false) (sym other.2.1) other.2.0 in
+    let m = c.in-None.ensures.moved in
+    let same = sym m.2.1 in
+    stayed_so _ _ _ _ _ _ c.args.book.now c.move_asked.new.self p _ _ c.fetch_far.new.self c.ask_move-asked.result.pointer c.ask_move-asked.ensures.pointer looks near
+    (subst (λ (e : EvacOf (BookSeat g.row.D.Denot) g.row.D.Denot). Looks c.fetch_far.new.self e c.ask_move-asked.result.pointer) same m.1)
+    (subst (λ (e : EvacOf (BookSeat g.row.D.Denot) g.row.D.Denot). asks_move (cell_in e c.ask_move-asked.result.pointer) ≡ false) same m.2.0)

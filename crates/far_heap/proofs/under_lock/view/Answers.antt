@@ -55,3 +55,6 @@ returns-then-first-clause-in_place g c = λ kind is.
     let told = sym c.of.ensures ∙ is in
     let same : c.in-Err.why ≡ Memory = cc in
     c.in-Err.ensures.in_place kind (ap Err same)
+
+pub returns-in-Ok-true-clause-brought : goal.returns-in-Ok-true-clause-brought
+returns-in-Ok-true-clause-brought g c = c.in-Ok-true.ensures.brought (λ i. Ok (c.in-Ok-true.field-0-test i))

@@ -1,6 +1,9 @@
 use Rattle.std.proofs.Common.{◌≡◌, ℕ, ◌/◌, true, false, refl, ap, subst, sym, ◌∙◌, arith}
 use Rattle.far_word.specs.declared.sizes.TheConstants.{CELLS}
+use Rattle.far_core.specs.declared.event.Event.TheVariants.{Adopt}
+use Rattle.far_core.specs.declared.event.Reply.TheVariants.{Word}
 use Rattle.far_table.specs.Seats.{Seated}
+use Rattle.far_table.specs.Tells.{OwnerMade, OwnerRefused}
 use Rattle.std.proofs.lemmas.Bool.{eqb-true}
 use Rattle.far_table.specs.Views.{object_at}
 use Rattle.far_table.specs.View.{OwnerView}
@@ -64,3 +67,20 @@ pub returns-in_default-clause-kept : goal.returns-in_default-clause-kept
 returns-in_default-clause-kept g c _ =
     let s = c.self.inside in
     ap mine_of (seated_is c.adopt.new.self s.seat.table _ c.adopt.ensures.table (c.in_default.ensures.refused refl).1) ∙ c.self.view_is
+
+pub returns-clause-found : goal.returns-clause-found
+returns-clause-found g c =
+    let s = c.self.inside in
+    let p : ℕ = c.args.p in
+    let number = ap (λ (m : Mine). m.number) c.self.view_is in
+    let made = subst (λ (n : ℕ). OwnerMade (Adopt n p) s.seat.view (Word c.in-Some.word) c.adopt.new.self.view) number c.in-Some.ensures.adopted.1 in
+    (c.in-Some.word, record { seat = s.seat; later = c.adopt.new.self; before = c.self.view_is; after = refl; made = made }, c.said-len.ensures.len, c.said-len.ensures.ds)
+
+pub returns-in_default-clause-refused : goal.returns-in_default-clause-refused
+returns-in_default-clause-refused g c = λ _.
+    let s = c.self.inside in
+    let number = ap (λ (m : Mine). m.number) c.self.view_is in record {
+      seat = s.seat;
+      before = c.self.view_is;
+      refused = subst (λ (n : ℕ). OwnerRefused (Adopt n c.args.p) s.seat.view) number (c.in_default.ensures.refused refl).2;
+    }

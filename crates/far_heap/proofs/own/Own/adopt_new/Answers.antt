@@ -1,4 +1,4 @@
-use Rattle.std.proofs.Common.{◌≡◌, length, sym, ap, ◌∙◌}
+use Rattle.std.proofs.Common.{◌≡◌, length, inl, inr, sym, ap, ◌∙◌}
 use Rattle.far_word.specs.declared.sizes.TheConstants.{CELLS}
 use Rattle.far_table.specs.Views.{object_at}
 use Rattle.far_heap.specs.Mine.{Mine, dropping, mine_of, seen, uses, views}
@@ -23,3 +23,17 @@ ask_drop-requires-clause-free g c =
 pub returns-else-found-len-clause-kept : goal.returns-else-found-len-clause-kept
 returns-else-found-len-clause-kept g c = λ _.
     c.ask_drop.ensures.dropped ∙ ap (dropping c.args.p) c.in-Some.ensures.adopted.2 ∙ undone c.args.self.now c.args.p c.in-Some.found c.in-Some.of c.requires (sym c.has.ensures ∙ c.if-has.false)
+
+pub returns-else-found-len-clause-other : goal.returns-else-found-len-clause-other
+returns-else-found-len-clause-other g c = λ _ _.
+    let f = c.in-Some.ensures.found in (
+    inl (
+      f.0,
+      c.adopt.new.self,
+      f.1,
+      λ len ds. elim c.else-found-len.either [
+        | inl same ↦ same.1 (f.3 ∙ ds)
+        | inr ne ↦ ne (f.2 ∙ len)
+      ],
+    )
+    )
