@@ -1,6 +1,6 @@
--- A word tells one fault alone.
-use Rattle.std.proofs.Common.{◌≡◌, ℕ, zero, suc, Option, Some, None, refl, ap, sym, ◌∙◌, arith}
-use Rattle.far_file.specs.Faults.{fault_number, Tells}
+-- A word tells one fault alone; want of room is told as Full.
+use Rattle.std.proofs.Common.{◌≡◌, ℕ, zero, suc, Option, Some, None, refl, ap, sym, ◌∙◌, inl, inr, arith}
+use Rattle.far_file.specs.Faults.{RoomIsToldFull, Tells, fault_number}
 use Rattle.far_file.specs.declared.fault.FileFault.{FileFault}
 use Rattle.far_file.specs.declared.fault.FileFault.TheVariants.{NoSlot, Nothing, Misfit, Storage}
 use Rattle.far_file.specs.declared.fault.StorageFault.TheVariants.{Memory, Short, Full, Failed}
@@ -36,3 +36,6 @@ none a h = sym (back a) ∙ ap numbered h
 pub tell_one : (word : ℕ) (told : KeyFault) (other : Option KeyFault) → Tells word (Some told) → Tells word other → other ≡ Some told
 tell_one word told None h e = let n = none told.why (sym h.0 ∙ e) in grind arith
 tell_one word told (Some other) h e = let s = same other.why told.why (sym e.0 ∙ h.0) in let k : other.key ≡ told.key = sym e.1 ∙ h.1 in grind arith
+
+pub room_told_full : RoomIsToldFull
+room_told_full fault = (λ told. told.full (inl refl), λ told. told.full (inr (inl refl)), λ told. told.full (inr (inr (inl refl))), λ told. told.full (inr (inr (inr refl))))

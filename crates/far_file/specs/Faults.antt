@@ -33,6 +33,11 @@ pub record IsTold (kind : ErrorKind) (fault : StorageFault) : Type 0 where
   pub full : IsOfRoom kind → fault ≡ Full
   pub failed : kind ≢ UnexpectedEof → (IsOfRoom kind → ⊥) → fault ≡ Failed
 
+-- each of those errors is told as Full
+abbrev pub RoomIsToldFull : Type 0
+RoomIsToldFull = (fault : StorageFault) → (IsTold StorageFull fault → fault ≡ Full) × (IsTold QuotaExceeded fault → fault ≡ Full)
+    × (IsTold FileTooLarge fault → fault ≡ Full) × (IsTold WriteZero fault → fault ≡ Full)
+
 -- why a write may fail whose key has a slot with room for the bytes, if the storage's call answered so
 abbrev pub CanStopWrite : (Result (Unit {0}) StorageFault → Type 0) → FileFault → Type 0
 CanStopWrite answers NoSlot = ⊥

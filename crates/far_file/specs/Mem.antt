@@ -1,5 +1,5 @@
 -- What calls of storage in memory answer.
-use Rattle.std.specs.Prelude.{◌≡◌, ℕ, ◌+◌, ◌^◌, ◌<◌, ◌≤◌, max, List, length, slice_index, Result, Ok, Err}
+use Rattle.std.specs.Prelude.{◌≡◌, ℕ, ◌+◌, ◌^◌, ◌<◌, ◌≤◌, ◌⊎◌, max, List, length, slice_index, Result, Ok, Err}
 use Rattle.std.specs.Vec.{vec_capacity, vec_len}
 use Rattle.far_file.specs.Positions.{HoldsAt, KeepsOutside}
 use Rattle.far_file.specs.declared.fault.StorageFault.{StorageFault}
@@ -26,3 +26,8 @@ MemPuts old at bytes (Err Failed) new = ⊥
 abbrev pub PutIsThere : Type 0
 PutIsThere = (old new : MemStorage) (at : ℕ) (bytes : List ℕ) (done : Unit {0}) (answer : Result (List ℕ) StorageFault) →
     MemPuts old at bytes (Ok done) new → MemGets new at (length bytes) answer → answer ≡ Ok bytes
+
+-- a put is refused as Full where the position behind its bytes has no number, and for want of memory where it has one
+abbrev pub PutIsRefusedSo : Type 0
+PutIsRefusedSo = (old new : MemStorage) (at : ℕ) (bytes : List ℕ) (why : StorageFault) → MemPuts old at bytes (Err why) new →
+    ((2 ^ 64 ≤ at + length bytes) × (why ≡ Full)) ⊎ ((at + length bytes < 2 ^ 64) × (why ≡ Memory))

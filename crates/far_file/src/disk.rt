@@ -1,7 +1,7 @@
 //! A file of the system as storage.
 
 ghost use Rattle.std.specs.Prelude.{◌≡◌, true, false, OnOk};
-ghost use Rattle.far_file.specs.Faults.{IsTold};
+ghost use Rattle.far_file.specs.Faults.{IsTold, RoomIsToldFull};
 
 use crate::fault::StorageFault;
 use crate::storage::Storage;
@@ -34,6 +34,12 @@ impl Storage for File {
         }
     }
 }
+
+/// The system has four errors by which there was no room for bytes: its disk is full, or a quota, the file would be too large, or none of the bytes were written. Each is
+/// told as [`StorageFault::Full`].
+pub fn want_of_room_is_full()
+    ensures { RoomIsToldFull }
+{}
 
 // What an error of the system is to storage.
 fn told(kind: ErrorKind) -> StorageFault

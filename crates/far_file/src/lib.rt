@@ -15,9 +15,10 @@ mod seal;
 mod sealed;
 mod storage;
 
+pub use disk::want_of_room_is_full;
 pub use fault::{FileFault, StorageFault};
 pub use last_fault::{KeyFault, LastFault, words_tell_one_fault};
-pub use memory::{MemStorage, what_is_put_is_there};
+pub use memory::{MemStorage, puts_are_refused_so, what_is_put_is_there};
 pub use new_file::NewFile;
 pub use seal::{Digest, NoSeal, Seal, WholeCopy};
 pub use sealed::{FileDevice, SealedDevice, slots_are};

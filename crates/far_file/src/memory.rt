@@ -2,7 +2,7 @@
 
 ghost use Rattle.std.specs.Prelude.{◌≡◌, ◌+◌, ◌<◌, ◌≤◌, ℕ, max, true, length, slice_index, IsFalse, IsTrue, OnOk};
 ghost use Rattle.std.specs.Vec.{vec_capacity, vec_len};
-ghost use Rattle.far_file.specs.Mem.{PutIsThere};
+ghost use Rattle.far_file.specs.Mem.{PutIsRefusedSo, PutIsThere};
 
 use crate::fault::StorageFault;
 use crate::storage::Storage;
@@ -65,6 +65,11 @@ impl Storage for MemStorage {
 /// What is put is there: a `get` of as many bytes from the same position gives those, and no fault.
 pub fn what_is_put_is_there()
     ensures { PutIsThere }
+{}
+
+/// A `put` is refused [`StorageFault::Full`] where the position behind its bytes is 2^64 or more, and [`StorageFault::Memory`] where it is less.
+pub fn puts_are_refused_so()
+    ensures { PutIsRefusedSo }
 {}
 
 // Makes bytes reach a position, by zeros. After `false`, where memory was refused, they are as before.

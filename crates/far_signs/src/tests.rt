@@ -45,7 +45,9 @@ fn let_others_run() {
 enum Case {
     EndsAStep,
     Looks,
+    Asks,
     EndsWork,
+    MakesLess,
     MakesRoomTwice,
     EndsRounds,
 }
@@ -61,26 +63,47 @@ fn waits_twice<R: Wait>(rt: &R, signs: &Signs) -> bool {
 fn sleeps<R: Wait>(rt: &R, signs: &Signs, back: &AtomicBool, case: Case) -> bool {
     let answer = match case {
         Case::Looks | Case::EndsWork => signs.rest(rt, Some(Found::Enough)),
-        Case::EndsAStep | Case::EndsRounds => Waiter::new(signs).wait(rt),
+        Case::Asks => signs.rest(rt, Some(Found::Enough)) || signs.rest(rt, Some(Found::Made)),
+        Case::EndsAStep | Case::MakesLess | Case::EndsRounds => Waiter::new(signs).wait(rt),
         Case::MakesRoomTwice => waits_twice(rt, signs),
     };
     back.store(true, Ordering::SeqCst);
     answer
 }
 
-// The step that ends here first began before one asked: this doesn't sleep, and the next step's end wakes that one.
-fn ends_a_step<R: Wait>(rt: &R, signs: &Signs) -> bool {
+// The step that ends here first began before one asked: this doesn't sleep, nor wakes that one, and the next step's end wakes it.
+fn ends_a_step<R: Wait>(rt: &R, signs: &Signs, back: &AtomicBool) -> bool {
     wait_till_asked(rt, signs);
     let early = signs.rest(rt, Some(Found::Enough));
+    let_others_run();
+    let slept = !back.load(Ordering::SeqCst);
     signs.end_work(rt);
     let done = signs.rest(rt, Some(Found::Enough));
-    !early && done
+    !early && slept && done
 }
 
 fn looks<R: Wait>(rt: &R, signs: &Signs, back: &AtomicBool) -> bool {
     let_others_run();
     let slept = !back.load(Ordering::SeqCst);
     signs.look(rt);
+    slept
+}
+
+// This asks, and then sleeps until the one that it has woken by that made room.
+fn asks<R: Wait>(rt: &R, signs: &Signs, back: &AtomicBool) -> bool {
+    let_others_run();
+    let slept = !back.load(Ordering::SeqCst);
+    let gave_up = Waiter::new(signs).wait(rt);
+    slept && !gave_up
+}
+
+// A step that makes no room wakes nobody; the next one makes some.
+fn makes_less<R: Wait>(rt: &R, signs: &Signs, back: &AtomicBool) -> bool {
+    wait_till_asked(rt, signs);
+    let _ = signs.rest(rt, Some(Found::Less));
+    let_others_run();
+    let slept = !back.load(Ordering::SeqCst);
+    let _ = signs.rest(rt, Some(Found::Made));
     slept
 }
 
@@ -97,8 +120,10 @@ fn makes_room_twice<R: Wait>(rt: &R, signs: &Signs, back: &AtomicBool) -> bool {
 // What the other thread does: whether it found what it was to find.
 fn goes_on<R: Wait>(rt: &R, signs: &Signs, back: &AtomicBool, case: Case) -> bool {
     match case {
-        Case::EndsAStep => ends_a_step(rt, signs),
+        Case::EndsAStep => ends_a_step(rt, signs, back),
         Case::Looks => looks(rt, signs, back),
+        Case::Asks => asks(rt, signs, back),
+        Case::MakesLess => makes_less(rt, signs, back),
         Case::EndsWork => {
             let_others_run();
             signs.end_work(rt);
@@ -129,7 +154,8 @@ fn comes_back<R: Threads + Wait + Sync>(rt: &R, case: Case, ended: bool) -> bool
     })
 }
 
-// One that asks while a step is made. Refused so: `heard` written before the sleep, as `state.heard = state.asked` above `if matches!`.
+// One that asks while a step is made. Refused so: `heard` written before the sleep, as `state.heard = state.asked` above `if matches!`; all woken by each step that
+// finds enough.
 #[test]
 fn one_that_asked_during_a_step_is_woken(rt: HostRuntime) {
     assert!(rt; comes_back(&rt, Case::EndsAStep, false));
@@ -141,10 +167,22 @@ fn rest_sleeps_until_it_is_wanted(rt: HostRuntime) {
     assert!(rt; comes_back(&rt, Case::Looks, false));
 }
 
+// It sleeps until one asks, which then sleeps itself. Refused so: `wait_past` that sleeps before it notifies.
+#[test]
+fn one_that_asks_wakes_the_one_that_sleeps(rt: HostRuntime) {
+    assert!(rt; comes_back(&rt, Case::Asks, false));
+}
+
 // It hears that the work is done, while it sleeps. Refused so: `end_work` that notifies nobody.
 #[test]
 fn end_work_wakes_the_one_that_sleeps(rt: HostRuntime) {
     assert!(rt; comes_back(&rt, Case::EndsWork, true));
+}
+
+// One that sleeps isn't woken for nothing. Refused so: all woken by a step that came to `Less`.
+#[test]
+fn one_that_sleeps_is_woken_by_room_alone(rt: HostRuntime) {
+    assert!(rt; comes_back(&rt, Case::MakesLess, false));
 }
 
 // One that was woken, and is refused room again, asks and sleeps again. Refused so: `wait_past` that sleeps only where `seen` is 0.

@@ -1,8 +1,8 @@
 -- What the book's lines are told, by what is asked and told alone.
-use Rattle.std.proofs.Common.{◌≡◌, ◌≢◌, ◌⊎◌, inl, inr, ℕ, zero, suc, ◌+◌, ◌*◌, ◌^◌, ◌<◌, ◌≤◌, Bool, true, false, cond, Some, None, Result, Ok, Err, List, [], ◌∷◌, filter, length, map, sum, take, refl, ap, sym, subst, ◌∙◌, arith}
+use Rattle.std.proofs.Common.{◌≡◌, ◌≢◌, ◌⊎◌, inl, inr, ℕ, zero, suc, ◌+◌, ◌*◌, ◌^◌, ◌<◌, ◌≤◌, Bool, true, false, cond, Some, None, Result, Ok, Err, List, [], ◌∷◌, eqb, filter, length, map, min, sum, take, refl, ap, sym, subst, ◌∙◌, arith}
 use Rattle.std.specs.Prelude.{Contains}
 use Rattle.std.specs.List.{AllByRecursion, range_with_len, sum_by}
-use Rattle.std.proofs.lemmas.Bool.{cases_Bool, cases_lt, cond_both, eqb-true, false≢true}
+use Rattle.std.proofs.lemmas.Bool.{cases_Bool, cases_lt, cond_both, eq-eqb, eqb-true, false≢true, or_cases, or_left, or_right}
 use Rattle.std.proofs.lemmas.List.{length-map, length-take}
 use Rattle.std.proofs.lemmas.List.Sums.{sum_by-cons}
 use Rattle.std.proofs.lemmas.Option.{none-some, same_Some}
@@ -11,6 +11,7 @@ use Rattle.far_word.specs.declared.refused.Refused.TheVariants as refused
 use Rattle.far_word.specs.Refused.{refusal_number}
 use Rattle.far_log.specs.declared.row.LogRow.{LogRow}
 use Rattle.far_log.proofs.Members.{here, none_in, split, there}
+use Rattle.far_policy.specs.LeastLive.{GoesBefore, TakesLeast}
 use Rattle.far_policy.specs.Logs.{logs_of}
 use Rattle.far_core.specs.events.Mark.{is_sealed}
 use Rattle.far_core.specs.laws.Observed.{live_bytes}
@@ -60,7 +61,82 @@ use Rattle.far_reply.specs.Reply.{Reply, Audited, Ended, Halted, Logs, Refused}
 use Rattle.far_replay.specs.Turn.{log_line}
 use Rattle.far_split.specs.FarSides.{FarLetsGo, FarSide, FarWrites, far_bytes}
 use Rattle.far_split.specs.BookTold.{BookStood, Gives, TellsCensus, TellsLine, counted as counted_in, lies_far, lies_near, none_done}
-use Rattle.far_split.specs.BookSaid.{AddsUp, AreSoMany, BookIsToldSo, CountsAll, HasNoneSealed, IsAtLimit, IsDoneBy, IsLeftIn, IsOf16, IsRefusedBare, IsRefusedWithCounts, IsStoppedBy, IsSumOf, IsToldSo, RanInOrBefore, RoundsAreRefusedSo, SaysFar, SaysNear, SumsAreTold, numbers_of}
+use Rattle.far_split.specs.BookSaid.{AddsUp, AreSoMany, BookIsToldSo, CountsAll, HasNoneSealed, IsAtLimit, IsChosenBy, IsDoneBy, IsLeftIn, IsOf16, IsRefusedBare, IsRefusedWithCounts, IsStoppedBy, IsSumOf, IsToldSo, RanInOrBefore, RoundsAreRefusedSo, SaysFar, SaysNear, SumsAreTold, numbers_of}
+
+-- ---- who is in a list
+-- in a list of what is found of others
+in_map : {X Y : Type 0} (f : X → Y) (x : X) (xs : List X) → Contains xs x → Contains (map f xs) (f x)
+in_map f x [] member = absurd (none_in x member)
+in_map f x (y ∷ ys) member = elim (split x y ys member) [
+  | inl e ↦ subst (λ z. Contains (z ∷ map f ys) (f x)) (sym (ap f e)) (here (f x) (map f ys))
+  | inr more ↦ there (f x) (f y) (map f ys) (in_map f x ys more)
+]
+
+from_map : {X Y : Type 0} (f : X → Y) (p : Y) (xs : List X) → Contains (map f xs) p → (x : X) × Contains xs x × (f x ≡ p)
+from_map f p [] member = absurd (none_in p member)
+from_map f p (y ∷ ys) member = elim (split p (f y) (map f ys) member) [
+  | inl e ↦ (y, here y ys, e)
+  | inr more ↦ (let (x, there_in, is) = from_map f p ys more in (x, there x y ys there_in, is))
+]
+
+among_in : (l : ℕ) (ls : List ℕ) → among ls l ≡ true → Contains ls l
+among_in l [] h = absurd (false≢true h)
+among_in l (k ∷ ks) h = elim (or_cases (eqb l k) (among ks l) h) [
+  | inl e ↦ subst (λ (j : ℕ). Contains (j ∷ ks) l) (eqb-true l k e) (here l ks)
+  | inr more ↦ there l k ks (among_in l ks more)
+]
+
+in_among : (l : ℕ) (ls : List ℕ) → Contains ls l → among ls l ≡ true
+in_among l [] h = absurd (none_in l h)
+in_among l (k ∷ ks) h = elim (split l k ks h) [
+  | inl e ↦ or_left (eqb l k) (among ks l) (eq-eqb l k (sym e))
+  | inr more ↦ or_right (eqb l k) (among ks l) (in_among l ks more)
+]
+
+-- ---- which logs a round takes
+abbrev chosen_in : Result (List ℕ) Refusal → List ℕ
+chosen_in (Ok logs) = logs
+chosen_in (Err why) = []
+
+-- rows of logs are of these
+logs_back : (s : State) (logs : List ℕ) → logs_of (map (row_of s) logs) ≡ logs
+logs_back s [] = refl
+logs_back s (log ∷ logs) = ap (λ (ls : List ℕ). log ∷ ls) (logs_back s logs)
+
+no_more : (r s : LogRow) → GoesBefore r s → r.live ≤ s.live
+no_more r s (inl fewer) = omega (arith, fewer)
+no_more r s (inr same) = omega (arith, same.0)
+
+-- logs of the rows that were taken
+module _ (s : State) (order logs : List ℕ) (most : ℕ) (taken : List LogRow) (takes : TakesLeast (map (row_of s) order) most taken) (are : logs ≡ logs_of taken) where
+  row_taken : (l : ℕ) → among logs l ≡ true → Contains taken (row_of s l)
+  row_taken l member =
+      let (row, in_taken, named) = from_map (λ (r : LogRow). r.log) l taken (subst (λ (ls : List ℕ). Contains ls l) are (among_in l logs member)) in
+      let (k, in_order, made) = from_map (row_of s) row order (takes.members row in_taken) in
+      let same : k ≡ l = ap (λ (r : LogRow). r.log) made ∙ named in
+      subst (Contains taken) (sym made ∙ ap (row_of s) same) in_taken
+
+  least_taken : (l k : ℕ) → among logs l ≡ true → among order k ≡ true → among logs k ≡ false → live_bytes s l ≤ live_bytes s k
+  least_taken l k member sealed left = elim (takes.least (row_of s k) (in_map (row_of s) k order (among_in k order sealed))) [
+    | inl in_taken ↦
+        let listed : Contains (logs_of taken) k = in_map (λ (r : LogRow). r.log) (row_of s k) taken in_taken in
+        absurd (false≢true (sym left ∙ ap (λ (ls : List ℕ). among ls k) are ∙ in_among k (logs_of taken) listed))
+    | inr before ↦ no_more (row_of s l) (row_of s k) (before (row_of s l) (row_taken l member))
+  ]
+
+-- what a policy gives of a moment's sealed logs
+chosen_by : (policy : Policy) (before after : Unit {0}) (now : Moment) (most : ℕ) (logs : List ℕ) → IsLawful now → Gives policy before (map (row_of now.core) now.order) most (Ok logs) after → IsChosenBy policy most logs now
+chosen_by Oldest before after now most logs lawful given = ap chosen_in given ∙ ap (λ (ls : List ℕ). take most ls) (logs_back now.core now.order)
+chosen_by LeastLive before after now most logs lawful (taken, takes, given) =
+    let are : logs ≡ logs_of taken = ap chosen_in given in (
+      ap (λ (ls : List ℕ). length ls) are ∙ length-map taken (λ (r : LogRow). r.log) ∙ takes.count ∙ ap (min most) (length-map now.order (row_of now.core)),
+      λ l k member sealed left. least_taken now.core now.order logs most taken takes are l k member (lawful.1.order k ∙ ap is_sealed sealed) left,
+    )
+
+took : (heap : HeapId) (policy : Policy) (most : ℕ) (logs : List ℕ) → Chose (Gives policy) FarSide heap tt most tt logs → BookStood heap (IsChosenBy policy most logs)
+took heap policy most logs chose =
+    let c = chose.chooses in
+    record { book = chose.book; named = c.named; lawful = c.lawful; is = chosen_by policy tt tt (moment seat_view chose.book) most logs c.lawful c.given }
 
 -- ---- no logs were chosen
 idle_is : (phase : Phase) → is_idle phase ≡ true → phase ≡ Idle
@@ -70,10 +146,10 @@ idle_is Waiting idle = absurd (false≢true idle)
 idle_is Evacuating idle = absurd (false≢true idle)
 
 barred_by : (idle spent : Bool) (why : Refusal) → cond idle (cond spent (Some refused.EpochsSpent) None) (Some refused.Phase) ≡ Some why
-    → (why ≡ refused.Phase) ⊎ ((why ≡ refused.EpochsSpent) × (idle ≡ true) × (spent ≡ true))
+    → ((why ≡ refused.Phase) × (idle ≡ false)) ⊎ ((why ≡ refused.EpochsSpent) × (idle ≡ true) × (spent ≡ true))
 barred_by true true why is = inr (sym (same_Some refused.EpochsSpent why is), refl, refl)
 barred_by true false why is = absurd (none-some why is)
-barred_by false spent why is = inl (sym (same_Some refused.Phase why is))
+barred_by false spent why is = inl (sym (same_Some refused.Phase why is), refl)
 
 -- a policy refuses nothing
 never_refused : (policy : Policy) (before after : Unit {0}) (rows : List LogRow) (most : ℕ) (why : Refusal) → Gives policy before rows most (Err why) after → ⊥
@@ -81,24 +157,24 @@ never_refused Oldest before after rows most why given = cc
 never_refused LeastLive before after rows most why (taken, takes, given) = cc
 
 module _ (heap : HeapId) (policy : Policy) (most : ℕ) (why : Refusal) where
-  cause_is : (e : EvacOf (BookSeat FarSide) FarSide) → heap_of e.copying e.book.near ≡ heap → IsLawful (moment seat_view e) → IsUnchosen (Gives policy) heap tt most tt e why → IsRefusedBare heap why
+  cause_is : (e : EvacOf (BookSeat FarSide) FarSide) → heap_of e.copying e.book.near ≡ heap → IsLawful (moment seat_view e) → IsUnchosen (Gives policy) heap tt most tt e why → IsRefusedBare heap policy most why
   cause_is e named lawful (inl (cause, same)) =
       let now = moment seat_view e in
       elim (barred_by (is_idle now.phase) (is_spent now.core) why cause) [
-        | inl runs ↦ inl (ap refusal_number runs)
+        | inl runs ↦ inl (ap refusal_number runs.0, inl (record { book = e; named = named; lawful = lawful; is = λ idle. false≢true (sym runs.1 ∙ ap is_idle idle) }))
         | inr spent ↦ inr (ap refusal_number spent.0, record { book = e; named = named; lawful = lawful; is = (idle_is now.phase spent.1, eqb-true (now.core.epoch + 1) (2 ^ 62) spent.2) })
       ]
   cause_is e named lawful (inr (free, bad, given)) = absurd (never_refused policy tt tt (rows_of e) most why given)
 
-  unchosen_so : ChoseNone (Gives policy) FarSide heap tt most tt why → IsRefusedBare heap why
+  unchosen_so : ChoseNone (Gives policy) FarSide heap tt most tt why → IsRefusedBare heap policy most why
   unchosen_so none = cause_is none.book none.refuses.named none.refuses.lawful none.refuses.cause
 
 -- that isn't for want of memory, nor by the device
-bare_not : (heap : HeapId) (why : Refusal) → IsRefusedBare heap why → ¬ ((why ≡ refused.Memory) ⊎ (why ≡ refused.Device))
-bare_not heap why (inl twelve) (inl memory) = let one : refusal_number why ≡ 1 = ap refusal_number memory in omega (arith, twelve, one)
-bare_not heap why (inl twelve) (inr device) = let ten : refusal_number why ≡ 10 = ap refusal_number device in omega (arith, twelve, ten)
-bare_not heap why (inr (thirteen, stood)) (inl memory) = let one : refusal_number why ≡ 1 = ap refusal_number memory in omega (arith, thirteen, one)
-bare_not heap why (inr (thirteen, stood)) (inr device) = let ten : refusal_number why ≡ 10 = ap refusal_number device in omega (arith, thirteen, ten)
+bare_not : (heap : HeapId) (policy : Policy) (most : ℕ) (why : Refusal) → IsRefusedBare heap policy most why → ¬ ((why ≡ refused.Memory) ⊎ (why ≡ refused.Device))
+bare_not heap policy most why (inl (twelve, stood)) (inl memory) = let one : refusal_number why ≡ 1 = ap refusal_number memory in omega (arith, twelve, one)
+bare_not heap policy most why (inl (twelve, stood)) (inr device) = let ten : refusal_number why ≡ 10 = ap refusal_number device in omega (arith, twelve, ten)
+bare_not heap policy most why (inr (thirteen, stood)) (inl memory) = let one : refusal_number why ≡ 1 = ap refusal_number memory in omega (arith, thirteen, one)
+bare_not heap policy most why (inr (thirteen, stood)) (inr device) = let ten : refusal_number why ≡ 10 = ap refusal_number device in omega (arith, thirteen, ten)
 
 -- ---- a turn was refused
 turn_refused : (heap : HeapId) (logs : List ℕ) (tally : Tally) (why : Refusal) (e f : EvacOf (BookSeat FarSide) FarSide) → StopsTurn FarWrites FarLetsGo far_bytes heap logs tally why e f
@@ -108,10 +184,13 @@ turn_refused heap logs tally why e f stops = elim (cases_Bool (is_round_of e.cop
   | inr other ↦ inl (stops.barred other).0
 ]
 
-bare_by : (heap : HeapId) (why : Refusal) → (why ≡ refused.Phase) ⊎ ((why ≡ refused.Memory) ⊎ (why ≡ refused.Device)) → why ≢ refused.Device → why ≢ refused.Memory → IsRefusedBare heap why
-bare_by heap why (inl phase) device memory = inl (ap refusal_number phase)
-bare_by heap why (inr (inl lacks)) device memory = absurd (memory lacks)
-bare_by heap why (inr (inr fails)) device memory = absurd (device fails)
+-- neither by the device nor for want of memory: then the round of these logs wasn't running
+lost_by : (heap : HeapId) (logs : List ℕ) (tally : Tally) (why : Refusal) (e f : EvacOf (BookSeat FarSide) FarSide) → StopsTurn FarWrites FarLetsGo far_bytes heap logs tally why e f
+    → why ≢ refused.Device → why ≢ refused.Memory → (refusal_number why ≡ 12) × BookStood heap (λ now. is_round_of now.copying logs now.collection ≡ false)
+lost_by heap logs tally why e f stops device memory = elim (cases_Bool (is_round_of e.copying logs e.collection)) [
+  | inl running ↦ absurd (elim ((stops.stops running).0) [ inl lacks ↦ memory lacks | inr fails ↦ device fails ])
+  | inr other ↦ (ap refusal_number (stops.barred other).0, record { book = e; named = stops.named; lawful = stops.lawful; is = other })
+]
 
 -- what did something has a count
 done_some : (so_far : Progress) → so_far.done ≡ false → so_far ≢ none_done → 0 < so_far.moved + so_far.far + so_far.dropped + so_far.freed
@@ -136,13 +215,15 @@ counts_by why so_far done (inr (inr device)) shown = inr (inl (ap refusal_number
 
 -- ---- a round
 module _ (heap : HeapId) (policy : Policy) (most turns : ℕ) (why : Refusal) where
-  bare : TellsLine heap (Evacuator (Round policy most turns)) (Refused why) → IsRefusedBare heap why
+  bare : TellsLine heap (Evacuator (Round policy most turns)) (Refused why) → IsRefusedBare heap policy most why
   bare (inl (none, unchosen), device, memory) = unchosen_so heap policy most why unchosen
-  bare (inr (logs, chose, some, stops), device, memory) = bare_by heap why (turn_refused heap logs stops.last why stops.refused.before stops.refused.later stops.refused.stops) device memory
+  bare (inr (logs, chose, some, stops), device, memory) =
+      let lost = lost_by heap logs stops.last why stops.refused.before stops.refused.later stops.refused.stops device memory in
+      inl (lost.0, inr (record { logs = logs; some = some; chosen = took heap policy most logs chose; over = lost.1 }))
 
   counted : (so_far : Progress) → TellsLine heap (Evacuator (Round policy most turns)) (Halted why so_far) → IsRefusedWithCounts why so_far
   counted so_far (inl (none, unchosen), inl some) = absurd (some none)
-  counted so_far (inl (none, unchosen), inr lacks) = absurd (bare_not heap why (unchosen_so heap policy most why unchosen) lacks)
+  counted so_far (inl (none, unchosen), inr lacks) = absurd (bare_not heap policy most why (unchosen_so heap policy most why unchosen) lacks)
   counted so_far (inr (logs, chose, some, stops), shown) =
       counts_by why so_far (ap (λ (p : Progress). p.done) stops.sum) (turn_refused heap logs stops.last why stops.refused.before stops.refused.later stops.refused.stops) shown
 
@@ -155,21 +236,6 @@ numbers_are now [] = refl
 numbers_are now (log ∷ logs) = ap (λ (ls : List ℕ). log ∷ ls) (numbers_are now logs)
 
 -- ---- an audit
--- in a list of what is found of others
-in_map : {X : Type 0} (f : X → ℕ) (x : X) (xs : List X) → Contains xs x → Contains (map f xs) (f x)
-in_map f x [] member = absurd (none_in x member)
-in_map f x (y ∷ ys) member = elim (split x y ys member) [
-  | inl e ↦ subst (λ (k : ℕ). Contains (k ∷ map f ys) (f x)) (sym (ap f e)) (here (f x) (map f ys))
-  | inr more ↦ there (f x) (f y) (map f ys) (in_map f x ys more)
-]
-
-from_map : {X : Type 0} (f : X → ℕ) (p : ℕ) (xs : List X) → Contains (map f xs) p → (x : X) × Contains xs x × (f x ≡ p)
-from_map f p [] member = absurd (none_in p member)
-from_map f p (y ∷ ys) member = elim (split p (f y) (map f ys) member) [
-  | inl e ↦ (y, here y ys, e)
-  | inr more ↦ (let (x, there_in, is) = from_map f p ys more in (x, there x y ys there_in, is))
-]
-
 -- some of those that are listed, in their order
 all_kept : (P : ℕ → Type 0) (f : Housed → Bool) (xs : List Housed) → AllByRecursion P (listed_pointers xs) → AllByRecursion P (listed_pointers (filter f xs))
 all_kept P f [] h = tt
@@ -443,14 +509,15 @@ module _ (heap : HeapId) (logs : List ℕ) where
         left = turns.stands;
       }
 
-  done_by : (turns : ℕ) (progress : Progress) (tallies : List Tally) → length tallies ≤ turns → AllMade tallies true Idle → progress ≡ progress_of (told_of (sum_of tallies)) true →
-      IsDoneBy heap turns progress
+  done_by : (policy : Policy) (most turns : ℕ) (progress : Progress) (tallies : List Tally) → BookStood heap (IsChosenBy policy most logs) → length tallies ≤ turns → AllMade tallies true Idle →
+      progress ≡ progress_of (told_of (sum_of tallies)) true → IsDoneBy heap policy most turns progress
   unfolding left_in
-  done_by turns progress [] few made is = absurd (false≢true (sym made.0))
-  done_by turns progress (tally ∷ tallies) few made is =
+  done_by policy most turns progress [] chosen few made is = absurd (false≢true (sym made.0))
+  done_by policy most turns progress (tally ∷ tallies) chosen few made is =
       let last = made.1 in
       record {
         logs = logs;
+        chosen = chosen;
         tallies = tallies;
         last = tally;
         few = omega (arith, few);
@@ -463,14 +530,15 @@ module _ (heap : HeapId) (logs : List ℕ) where
         back = last_gives tally last;
       }
 
-  stopped_by : (turns : ℕ) (why : Refusal) (so_far : Progress) → (stops : StopsTurns FarWrites FarLetsGo far_bytes heap logs turns record { so_far = so_far; why = why }) →
-      IsStoppedBy heap turns why so_far
-  stopped_by turns why so_far stops =
+  stopped_by : (policy : Policy) (most turns : ℕ) (why : Refusal) (so_far : Progress) → BookStood heap (IsChosenBy policy most logs) →
+      (stops : StopsTurns FarWrites FarLetsGo far_bytes heap logs turns record { so_far = so_far; why = why }) → IsStoppedBy heap policy most turns why so_far
+  stopped_by policy most turns why so_far chosen stops =
       let all : List Tally = stops.last ∷ stops.tallies in
       let few : heap.copying ≡ false → AllByRecursion IsOf16 all =
       λ alone. (few_refused stops.last why stops.refused alone, few_turns stops.tallies false stops.phase stops.made alone) in
       record {
         logs = logs;
+        chosen = chosen;
         tallies = stops.tallies;
         last = stops.last;
         phase = stops.phase;
@@ -487,8 +555,8 @@ module _ (heap : HeapId) (logs : List ℕ) where
   stands_in turns phase [] all made = inl (sym all, made.1)
   stands_in turns phase (tally ∷ tallies) all (_, last) = inr (omega (arith, all), left_in tally false phase last)
 
-  at_limit : (turns : ℕ) (phase : Phase) (tallies : List Tally) → length tallies ≡ turns → AllMade tallies false phase → IsAtLimit heap turns phase
-  at_limit turns phase tallies all made = record { logs = logs; tallies = tallies; all = all; made = made; stands = stands_in turns phase tallies all made }
+  at_limit : (policy : Policy) (most turns : ℕ) (phase : Phase) (tallies : List Tally) → BookStood heap (IsChosenBy policy most logs) → length tallies ≡ turns → AllMade tallies false phase → IsAtLimit heap policy most turns phase
+  at_limit policy most turns phase tallies chosen all made = record { logs = logs; chosen = chosen; tallies = tallies; all = all; made = made; stands = stands_in turns phase tallies all made }
 
 -- ---- a round that ends
 map_none : {X Y : Type 0} (f : X → Y) (xs : List X) → length (map f xs) ≡ 0 → length xs ≡ 0
@@ -498,10 +566,6 @@ none_left : {X : Type 0} (most : ℕ) (xs : List X) → length (take most xs) �
 none_left zero xs none = inl refl
 none_left (suc most) [] none = inr refl
 none_left (suc most) (x ∷ xs) none = absurd (omega (arith, none))
-
-abbrev chosen_in : Result (List ℕ) Refusal → List ℕ
-chosen_in (Ok logs) = logs
-chosen_in (Err why) = []
 
 -- a policy chooses none where it may choose none, or has none to choose from
 none_given : (policy : Policy) (before after : Unit {0}) (rows : List LogRow) (most : ℕ) → Gives policy before rows most (Ok []) after → (most ≡ 0) ⊎ (length rows ≡ 0)
@@ -540,23 +604,23 @@ module _ (heap : HeapId) (policy : Policy) (most turns : ℕ) where
   some_turns (tally ∷ tallies) logs phase few made = omega (arith, few)
 
   done_told : (progress : Progress) (logs : List ℕ) → Chose (Gives policy) FarSide heap tt most tt logs → EndsAfter FarWrites FarLetsGo far_bytes heap logs turns (ends.Done progress) →
-      (0 < most) × (0 < turns) × (progress.done ≡ true) × IsDoneBy heap turns progress
+      (0 < most) × (0 < turns) × (progress.done ≡ true) × IsDoneBy heap policy most turns progress
   done_told progress [] chose is = absurd (false≢true (ap is_nothing is))
   done_told progress (l ∷ ls) chose (tallies, few, made, is) =
-      (omega (arith, chose.chooses.choice.few), some_turns tallies (l ∷ ls) Idle few made, ap (λ (p : Progress). p.done) is, done_by heap (l ∷ ls) turns progress tallies few made is)
+      (omega (arith, chose.chooses.choice.few), some_turns tallies (l ∷ ls) Idle few made, ap (λ (p : Progress). p.done) is, done_by heap (l ∷ ls) policy most turns progress tallies (took heap policy most (l ∷ ls) chose) few made is)
 
   limit_told : (phase : Phase) (logs : List ℕ) → Chose (Gives policy) FarSide heap tt most tt logs → EndsAfter FarWrites FarLetsGo far_bytes heap logs turns (ends.Limit phase) →
-      (0 < most) × (phase ≢ Idle) × IsAtLimit heap turns phase
+      (0 < most) × (phase ≢ Idle) × IsAtLimit heap policy most turns phase
   limit_told phase [] chose is = absurd (false≢true (ap is_nothing is))
-  limit_told phase (l ∷ ls) chose (tallies, all, made, runs) = (omega (arith, chose.chooses.choice.few), runs, at_limit heap (l ∷ ls) turns phase tallies all made)
+  limit_told phase (l ∷ ls) chose (tallies, all, made, runs) = (omega (arith, chose.chooses.choice.few), runs, at_limit heap (l ∷ ls) policy most turns phase tallies (took heap policy most (l ∷ ls) chose) all made)
 
 -- ---- a round that is refused with counts
 halted : (heap : HeapId) (policy : Policy) (most turns : ℕ) (why : Refusal) (so_far : Progress) → TellsLine heap (Evacuator (Round policy most turns)) (Halted why so_far) →
-    IsRefusedWithCounts why so_far × (so_far.done ≡ false) × IsStoppedBy heap turns why so_far
+    IsRefusedWithCounts why so_far × (so_far.done ≡ false) × IsStoppedBy heap policy most turns why so_far
 halted heap policy most turns why so_far (inl (none, unchosen), inl some) = absurd (some none)
-halted heap policy most turns why so_far (inl (none, unchosen), inr lacks) = absurd (bare_not heap why (unchosen_so heap policy most why unchosen) lacks)
+halted heap policy most turns why so_far (inl (none, unchosen), inr lacks) = absurd (bare_not heap policy most why (unchosen_so heap policy most why unchosen) lacks)
 halted heap policy most turns why so_far (inr (logs, chose, some, stops), shown) =
-    (counted heap policy most turns why so_far (inr (logs, chose, some, stops), shown), ap (λ (p : Progress). p.done) stops.sum, stopped_by heap logs turns why so_far stops)
+    (counted heap policy most turns why so_far (inr (logs, chose, some, stops), shown), ap (λ (p : Progress). p.done) stops.sum, stopped_by heap logs policy most turns why so_far (took heap policy most logs chose) stops)
 
 -- ---- all lines
 line_so : (heap : HeapId) (line : Command) (reply : Reply) → TellsLine heap line reply → IsToldSo heap line reply

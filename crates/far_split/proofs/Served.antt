@@ -12,8 +12,8 @@ use Rattle.far_split.specs.Here.{IsUndamaged}
 use Rattle.far_split.specs.Served.{AloneWith, HinderedIsRefused, IsRefusedWith, NeverDamaged, ServedIsAlone, UnrefusedIsAlone}
 
 pub hindered_refused : HinderedIsRefused
-hindered_refused o (Mutator m (New len ds)) (Refused NoPointer) q h = (inr (NoPointer, refl, refl), h.3)
-hindered_refused o (Mutator m (New len ds)) (Refused NoRoom) q h = (inl (NoRoom, refl, refl), h.3)
+hindered_refused o (Mutator m (New len ds)) (Refused NoPointer) q h = ((h.0, h.1, h.2, inr (NoPointer, refl, refl)), h.3)
+hindered_refused o (Mutator m (New len ds)) (Refused NoRoom) q h = ((h.0, h.1, h.2, inl (NoRoom, refl, refl)), h.3)
 hindered_refused o c r q h = absurd h
 
 -- ---- damage

@@ -1,5 +1,5 @@
 -- What the book's lines are told, in other words: by what is asked and told alone, and in digits.
-use Rattle.std.specs.Prelude.{◌≡◌, ◌≢◌, ◌⊎◌, ◌↔◌, ℕ, ◌+◌, ◌*◌, ◌^◌, ◌<◌, ◌≤◌, Bool, false, true, Some, List, [], ◌∷◌, Contains, length, map, sum}
+use Rattle.std.specs.Prelude.{◌≡◌, ◌≢◌, ◌⊎◌, ◌↔◌, ℕ, ◌+◌, ◌*◌, ◌^◌, ◌<◌, ◌≤◌, Bool, false, true, Some, List, [], ◌∷◌, Contains, length, map, min, sum, take}
 use Rattle.std.specs.List.{AllByRecursion, AllZip, range_with_len, sum_by}
 use Rattle.far_word.specs.declared.mark.Marks.{Marks}
 use Rattle.far_word.specs.declared.pointer.Place.{Place}
@@ -21,14 +21,22 @@ use Rattle.far_evac.specs.AnyTurns.{sum_of}
 use Rattle.far_evac.specs.EvacOf.{EvacOf}
 use Rattle.far_evac.specs.LiveLaws.{IsInTurn}
 use Rattle.far_evac.specs.Moment.{Moment, Tally, progress_of}
+use Rattle.far_evac.specs.RoundSteps.{among}
 use Rattle.far_heap.specs.HeapId.{HeapId, heap_of}
-use Rattle.far_heap.specs.Rounds.{TurnRefused, TurnsMade, told_of}
-use Rattle.far_text.specs.Command.{Command, Book, Evacuator, Logs as AsksLogs, Log as AsksLog, Audit as AsksAudit, Policy, Round}
+use Rattle.far_heap.specs.Rounds.{TurnRefused, TurnsMade, is_round_of, told_of}
+use Rattle.far_text.specs.Command.{Command, Book, Evacuator, Logs as AsksLogs, Log as AsksLog, Audit as AsksAudit, LeastLive, Oldest, Policy, Round}
 use Rattle.far_reply.specs.declared.reply.Counts.{Counts}
 use Rattle.far_reply.specs.declared.reply.LogLine.{LogLine}
 use Rattle.far_reply.specs.Reply.{Reply, Audited, Ended, Halted, Logs, Refused}
 use Rattle.far_split.specs.BookTold.{BookStood, BookTold, TellsLine}
 use Rattle.far_split.specs.FarSides.{FarLetsGo, FarSide, FarWrites, far_bytes}
+
+-- ---- which logs a round takes
+-- of the sealed logs as many as are to be chosen, or all: the oldest, in their order; or some of which none has more live bytes than a sealed log that is left
+abbrev pub IsChosenBy : Policy → ℕ → List ℕ → Moment → Type 0
+IsChosenBy Oldest most logs now = logs ≡ take most now.order
+IsChosenBy LeastLive most logs now = (length logs ≡ min most (length now.order))
+    × ((l k : ℕ) → among logs l ≡ true → now.core.kind k ≡ kinds.Sealed → among logs k ≡ false → live_bytes now.core l ≤ live_bytes now.core k)
 
 -- ---- what a round counts
 -- a number is the sum of what turns counted of one kind, or 2^64 - 1, where that sum is greater
@@ -61,18 +69,30 @@ SumsAreTold = (done : Bool) →
 abbrev pub HasNoEpoch : Moment → Type 0
 HasNoEpoch now = (now.phase ≡ Idle) × (now.core.epoch + 1 ≡ 2 ^ 62)
 
+-- a round ran
+abbrev pub HasRound : Moment → Type 0
+HasRound now = now.phase ≢ Idle
+
+-- logs were chosen for a round, and that wasn't running then, or not any more
+pub record IsLost (heap : HeapId) (policy : Policy) (most : ℕ) : Type 0 where
+  pub logs : List ℕ
+  pub some : logs ≢ []
+  pub chosen : BookStood heap (IsChosenBy policy most logs)
+  pub over : BookStood heap (λ now. is_round_of now.copying logs now.collection ≡ false)
+
 -- it tells no counts: a round ran already, or another ended it before it did anything; or no epoch was left, at some moment
-abbrev pub IsRefusedBare : HeapId → Refusal → Type 0
-IsRefusedBare heap why = (refusal_number why ≡ 12) ⊎ ((refusal_number why ≡ 13) × BookStood heap HasNoEpoch)
+abbrev pub IsRefusedBare : HeapId → Policy → ℕ → Refusal → Type 0
+IsRefusedBare heap policy most why = ((refusal_number why ≡ 12) × (BookStood heap HasRound ⊎ IsLost heap policy most)) ⊎ ((refusal_number why ≡ 13) × BookStood heap HasNoEpoch)
 
 -- it tells counts: memory was refused in a turn, or the device failed, whatever the round had done; or another ended the round, which had done something
 abbrev pub IsRefusedWithCounts : Refusal → Progress → Type 0
 IsRefusedWithCounts why so_far = (refusal_number why ≡ 1) ⊎ (refusal_number why ≡ 10) ⊎ ((refusal_number why ≡ 12) × (0 < so_far.moved + so_far.far + so_far.dropped + so_far.freed))
 
--- fewer turns than so many were made of a round of some logs, and then one that was refused so; they counted so much together. Where no copy may be offered each of
--- them, the refused one too, dealt with 16 objects at most; so no more objects are told than 16 for each turn that was to be made
-pub record IsStoppedBy (heap : HeapId) (turns : ℕ) (why : Refusal) (so_far : Progress) : Type 0 where
+-- fewer turns than so many were made of a round of logs that the policy chose, and then one that was refused so; they counted so much together. Where no copy may be
+-- offered each of them, the refused one too, dealt with 16 objects at most; so no more objects are told than 16 for each turn that was to be made
+pub record IsStoppedBy (heap : HeapId) (policy : Policy) (most turns : ℕ) (why : Refusal) (so_far : Progress) : Type 0 where
   pub logs : List ℕ
+  pub chosen : BookStood heap (IsChosenBy policy most logs)
   pub tallies : List Tally
   pub last : Tally
   pub phase : Phase
@@ -85,7 +105,7 @@ pub record IsStoppedBy (heap : HeapId) (turns : ℕ) (why : Refusal) (so_far : P
 
 -- there are no other refusals of a round, whatever the policy
 abbrev pub RoundsAreRefusedSo : Type 0
-RoundsAreRefusedSo = (heap : HeapId) (policy : Policy) (most turns : ℕ) (why : Refusal) (so_far : Progress) → (TellsLine heap (Evacuator (Round policy most turns)) (Refused why) → IsRefusedBare heap why)
+RoundsAreRefusedSo = (heap : HeapId) (policy : Policy) (most turns : ℕ) (why : Refusal) (so_far : Progress) → (TellsLine heap (Evacuator (Round policy most turns)) (Refused why) → IsRefusedBare heap policy most why)
     × (TellsLine heap (Evacuator (Round policy most turns)) (Halted why so_far) → IsRefusedWithCounts why so_far)
 
 -- ---- a round that ends
@@ -112,11 +132,12 @@ pub record IsLeftIn (heap : HeapId) (phase : Phase) : Type 0 where
   pub came : Came seat_makes stood.book.book.near later.book.near
   pub left : later.phase ≡ phase
 
--- at most so many turns were made of a round of some logs, and it was over with the last of them, which gave back all logs that the round had left, and counted them;
--- they counted so much together, and gave a log back at least. Where no copy may be offered each of them dealt with 16 objects at most; so no more objects are told than
--- 16 for each turn that was to be made
-pub record IsDoneBy (heap : HeapId) (turns : ℕ) (progress : Progress) : Type 0 where
+-- at most so many turns were made of a round of logs that the policy chose, and it was over with the last of them, which gave back all logs that the round had left,
+-- and counted them; they counted so much together, and gave a log back at least. Where no copy may be offered each of them dealt with 16 objects at most; so no more
+-- objects are told than 16 for each turn that was to be made
+pub record IsDoneBy (heap : HeapId) (policy : Policy) (most turns : ℕ) (progress : Progress) : Type 0 where
   pub logs : List ℕ
+  pub chosen : BookStood heap (IsChosenBy policy most logs)
   pub tallies : List Tally
   pub last : Tally
   pub few : length tallies < turns
@@ -128,10 +149,11 @@ pub record IsDoneBy (heap : HeapId) (turns : ℕ) (progress : Progress) : Type 0
   pub over : IsLeftIn heap Idle
   pub back : last.freed ≡ length over.stood.book.collection
 
--- of a round of some logs as many turns are told as were to be made, of which one may stand for several: no book is told to be that of the turn before. The round is in
--- the phase in which the last of them left it; where none was to be made, objects are to be marked
-pub record IsAtLimit (heap : HeapId) (turns : ℕ) (phase : Phase) : Type 0 where
+-- of a round of logs that the policy chose as many turns are told as were to be made, of which one may stand for several: no book is told to be that of the turn
+-- before. The round is in the phase in which the last of them left it; where none was to be made, objects are to be marked
+pub record IsAtLimit (heap : HeapId) (policy : Policy) (most turns : ℕ) (phase : Phase) : Type 0 where
   pub logs : List ℕ
+  pub chosen : BookStood heap (IsChosenBy policy most logs)
   pub tallies : List Tally
   pub all : length tallies ≡ turns
   pub made : TurnsMade FarWrites FarLetsGo far_bytes heap logs tallies false phase
@@ -173,10 +195,10 @@ IsToldSo heap (Book (AsksLog log)) (Refused why) = (heap.logs ≤ log) × (refus
 IsToldSo heap (Book AsksAudit) (Audited counts) = BookStood heap (CountsAll counts)
 IsToldSo heap (Book AsksAudit) (Refused why) = refusal_number why ≡ 1
 IsToldSo heap (Evacuator (Round policy most turns)) (Ended ends.Nothing) = (most ≡ 0) ⊎ BookStood heap HasNoneSealed
-IsToldSo heap (Evacuator (Round policy most turns)) (Ended (ends.Done progress)) = (0 < most) × (0 < turns) × (progress.done ≡ true) × IsDoneBy heap turns progress
-IsToldSo heap (Evacuator (Round policy most turns)) (Ended (ends.Limit phase)) = (0 < most) × (phase ≢ Idle) × IsAtLimit heap turns phase
-IsToldSo heap (Evacuator (Round policy most turns)) (Refused why) = IsRefusedBare heap why
-IsToldSo heap (Evacuator (Round policy most turns)) (Halted why so_far) = IsRefusedWithCounts why so_far × (so_far.done ≡ false) × IsStoppedBy heap turns why so_far
+IsToldSo heap (Evacuator (Round policy most turns)) (Ended (ends.Done progress)) = (0 < most) × (0 < turns) × (progress.done ≡ true) × IsDoneBy heap policy most turns progress
+IsToldSo heap (Evacuator (Round policy most turns)) (Ended (ends.Limit phase)) = (0 < most) × (phase ≢ Idle) × IsAtLimit heap policy most turns phase
+IsToldSo heap (Evacuator (Round policy most turns)) (Refused why) = IsRefusedBare heap policy most why
+IsToldSo heap (Evacuator (Round policy most turns)) (Halted why so_far) = IsRefusedWithCounts why so_far × (so_far.done ≡ false) × IsStoppedBy heap policy most turns why so_far
 IsToldSo heap _ _ = ⊥
 
 -- each line is told one thing, in order

@@ -1,5 +1,5 @@
 -- What hinders a mutator beside others, in other words; and that the lines which aren't hindered are those of a mutator that is alone.
-use Rattle.std.specs.Prelude.{◌≡◌, ◌⊎◌, ℕ, true, false, List, [], ◌∷◌, ◌++◌, length, map}
+use Rattle.std.specs.Prelude.{◌≡◌, ◌⊎◌, ◌<◌, ◌≤◌, ℕ, true, false, List, [], ◌∷◌, ◌++◌, length, map}
 use Rattle.far_word.specs.declared.refused.Refused.{Refused as Refusal}
 use Rattle.far_word.specs.Refused.{refusal_number}
 use Rattle.far_text.specs.Command.{Command, Mutator, New, Read}
@@ -11,9 +11,9 @@ use Rattle.far_split.specs.Here.{AloneHere, AreBy, Hindered, KnowsHere}
 abbrev pub IsRefusedWith : ℕ → Reply → Type 0
 IsRefusedWith number r = (why : Refusal) × (r ≡ Refused why) × (refusal_number why ≡ number)
 
--- the refusals that may hinder a line, whatever its mutator knows: of a new object 2 and 3
+-- the refusals that may hinder a line, whatever its mutator knows: 2 and 3 of a new object whose data structure and length are in range
 abbrev pub MayBeHindered : Command → Reply → Type 0
-MayBeHindered (Mutator _ (New len ds)) r = IsRefusedWith 2 r ⊎ IsRefusedWith 3 r
+MayBeHindered (Mutator _ (New len ds)) r = (ds < 256) × (0 < len) × (len ≤ 4088) × (IsRefusedWith 2 r ⊎ IsRefusedWith 3 r)
 MayBeHindered c r = ⊥
 
 -- what hinders a line is such a refusal, and never a value; and the mutator knows what it knew

@@ -5,10 +5,11 @@ ghost use Rattle.far_split.specs.CellsSaid.{MutatorsAreToldSo, NoneLacksMemory, 
 ghost use Rattle.far_split.specs.Here.{AloneIsAloneHere, AloneOnIsAloneHere, HonestIsAllowed, UnhinderedIsAlone};
 ghost use Rattle.far_split.specs.Served.{HinderedIsRefused, NeverDamaged, ReadsAreAsLong, RefusalsAreLawful, ServedIsAlone, UnrefusedIsAlone};
 
-/// The law of a mutator's replies beside others is that of the plain program, with two refusals more, and over an honest far side without damaged bytes: what the plain program's law
-/// allows of its own lines is allowed, also over a far side that may lie. What hinders a line is one of those refusals, 2 and 3 of a new object, and its mutator
-/// knows then what it knew; so over an honest far side the lines that are left, where such are left out, are allowed by the plain program's law, and all are where none is refused so; and
-/// none is refused 11. Over one that may lie all that is allowed over an honest one is allowed too; a refusal there is one of the plain program's law, or hinders, and a read gives as many bytes as it asks for. What is allowed on a heap, of which replies tell, is allowed by the first.
+/// The law of a mutator's replies beside others is that of the plain program, with two refusals more, and over an honest far side without damaged bytes: what the plain program's
+/// law allows of its own lines is allowed, also over a far side that may lie. What hinders a line is one of those refusals, 2 and 3 of a new object of 1 to 4,088 bytes for a
+/// data structure below 256, and its mutator knows then what it knew; so over an honest far side the lines that are left, where such are left out, are allowed by the plain
+/// program's law, and all are where none is refused so; and none is refused 11. Over one that may lie all that is allowed over an honest one is allowed too; a refusal there is
+/// one of the plain program's law, or hinders, and a read gives as many bytes as it asks for. What is allowed on a heap, of which replies tell, is allowed by the first.
 pub fn mutators_are_alone()
     ensures allowed { AloneIsAloneHere }
     ensures unhindered { UnhinderedIsAlone }
@@ -35,12 +36,13 @@ pub fn mutators_are_told_so()
 
 /// What the book's lines are told, by what is asked and told alone: each is told one thing. Logs are told by number, from 0 on, or the one that is asked for, and each line of a
 /// log makes 4,096 bytes; one log is refused 8 exactly where the heap has none of its number. An audit tells how many cells said near and how many said far, each pointer counted
-/// once, and the live bytes of all logs, of one moment; it is refused 1 alone. A round is told `none` only where it was to choose none, or no log was sealed. It is told `done`
-/// only after a turn that found objects leaving, gave back all logs that the round had left, and left none running: its four counts are the sums of what its turns counted, or
-/// 2^64 - 1 where a sum is greater, and a log was given back. At its limit as many turns are told as were to be made, of which one may stand for several, with the phase in which
-/// the last one left the round, which found it there or in the phase before; where none was to be made, marking. A round that is refused tells no counts where its refusal is 12 or
-/// 13, and 13 tells that at some moment no epoch was left; it tells counts where that is 1 or 10, or 12 and it had done something, and they are sums as those of one that is done.
-/// Where no copy may be offered a turn deals with 16 objects at most. Sums are told in numerals too.
+/// once, and the live bytes of all logs, of one moment; it is refused 1 alone. A round is told `none` only where it was to choose none, or no log was sealed. Else it takes as
+/// many sealed logs as it was to choose, or all: the oldest, or some of which none has more live bytes than a sealed log that is left. It is told `done` only after a turn that
+/// found objects leaving, gave back all logs that the round had left, and left none running: its four counts are the sums of what its turns counted, or 2^64 - 1 where a sum is
+/// greater, and a log was given back. At its limit as many turns are told as were to be made, of which one may stand for several, with the phase in which the last one left the
+/// round, which found it there or in the phase before; where none was to be made, marking. A round that is refused tells no counts where its refusal is 12 or 13: 12 tells that
+/// at some moment a round ran, or that its own wasn't running, 13 that no epoch was left; it tells counts where that is 1 or 10, or 12 and it had done something, and they are
+/// sums as those of one that is done. Where no copy may be offered a turn deals with 16 objects at most. Sums are told in numerals too.
 pub fn book_is_told_so()
     ensures rounds { RoundsAreRefusedSo }
     ensures sums { SumsAreTold }

@@ -83,7 +83,7 @@ fn runs<K: HeapName, D: Device + Drop, R: Wait>(
     Some(told_of(rt, &heap, mutator, last, most, cut))
 }
 
-// The same on a heap over a device.
+// The same on a heap over a device, of which a second handle tells the same. Refused so: `last_fault` that hands out a handle on another word the second time.
 fn asked<F: Storage + Drop, L: Seal, R: Wait>(
     rt: &R,
     alloc: Global,
@@ -92,8 +92,14 @@ fn asked<F: Storage + Drop, L: Seal, R: Wait>(
     cut: Option<&File>,
 ) -> Option<(Told, Told)> {
     let last = device.last_fault().ok()?;
+    let other = device.last_fault().ok()?;
     let blank = Blank::new(alloc, SHAPE, device).ok()?;
-    runs::<Brand, _, R>(rt, alloc, blank, &last, most, cut)
+    let told = runs::<Brand, _, R>(rt, alloc, blank, &last, most, cut)?;
+    if other.get() == last.get() {
+        Some(told)
+    } else {
+        None
+    }
 }
 
 #[test]

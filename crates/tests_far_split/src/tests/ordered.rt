@@ -425,6 +425,54 @@ round done moved 0 far 1 dropped 0 freed 1
 ",
 };
 
+// Two logs are sealed, and the younger has fewer live bytes: a round of least live bytes empties that one.
+const LEAST_LIVE: Row = Row {
+    text: "\
+heap 5 1
+new 0 4088 1
+new 0 2000 1
+new 0 4088 1
+round leastlive 1 9
+log 0
+log 1
+",
+    order: &[0, 0, 0, B, B, B],
+    told: "\
+mutator 0
+pointer 0
+pointer 1
+pointer 2
+book
+round done moved 0 far 1 dropped 0 freed 1
+log 0 sealed live 4096 dead 0 unused 0
+log 1 free live 0 dead 0 unused 4096
+",
+};
+
+// And a round of the oldest empties the other.
+const OLDEST: Row = Row {
+    text: "\
+heap 5 1
+new 0 4088 1
+new 0 2000 1
+new 0 4088 1
+round oldest 1 9
+log 0
+log 1
+",
+    order: &[0, 0, 0, B, B, B],
+    told: "\
+mutator 0
+pointer 0
+pointer 1
+pointer 2
+book
+round done moved 0 far 1 dropped 0 freed 1
+log 0 free live 0 dead 0 unused 4096
+log 1 sealed live 2008 dead 0 unused 2088
+",
+};
+
 #[test]
 fn lines_in_order_are_answered_as_in_one_thread(rt: HostRuntime) {
     for (at, row) in [
@@ -439,6 +487,8 @@ fn lines_in_order_are_answered_as_in_one_thread(rt: HostRuntime) {
         READS_SHORT_NEXT,
         READS_INVERTED,
         NEVER_LIES,
+        LEAST_LIVE,
+        OLDEST,
     ]
     .iter()
     .enumerate()
