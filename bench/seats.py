@@ -1,7 +1,7 @@
 #!/usr/bin/env python3
 """What a call of a seat, an owner's, a copier's or the book's, costs beside the same atomic operation on a bare table: instructions, by callgrind.
 
-    bench/seats.py [PROGRAM]     PROGRAM: crates/bench_far_table/out/bench_far_table, which `rt run` builds
+    bench/seats.py PROGRAM     PROGRAM: a built bench_far_table (bench/lay_out.sh)
 
 Each work is done N and 2N times, so that the difference is N turns, without the start. A turn is a call through a table of methods and the loop
 round it, the same for all works; within it the operation is inline. All is counted twice, and must come to the same. A scope is read_epoch, open and
@@ -12,10 +12,9 @@ empty turn, make its turn. The bare table lies in an Arc too, as threads share i
 A job is of 8 words, so copy_word is done 4 and 8 times. An offer, a claim, a finish and a collect are done once: what a run with one turn costs more than one
 with none, and an empty turn for what the same of the empty work costs, make the turn. Before a collect the book sees that the job may be emptied (`await`):
 what both cost more than that, and an empty turn, make its turn. A claim looks at each job before the one that is offered: what such a look costs is told below
-the table. Beside a copier's calls and the book's offer stands the same work by hand, with the same answers (crates/bench_far_table/src/by_hand.rt, offers.rt):
+the table. Beside a copier's calls and the book's offer stands the same work by hand, with the same answers (bench/programs/bench_far_table/src, by_hand.rt.in, offers.rt.in):
 a word of a job is made of its parts or taken apart by shifts and masks, and stored, loaded or exchanged in the bare table.
 """
-import pathlib
 import re
 import subprocess
 import sys
@@ -66,8 +65,9 @@ def measured(program):
 
 
 def main():
-    root = pathlib.Path(__file__).resolve().parent.parent
-    program = sys.argv[1] if len(sys.argv) > 1 else str(root / "crates/bench_far_table/out/bench_far_table")
+    if len(sys.argv) != 2:
+        sys.exit(__doc__)
+    program = sys.argv[1]
     cost = measured(program)
     again = measured(program)
     for work, turn in cost.items():

@@ -1,7 +1,7 @@
 #!/usr/bin/env python3
 """What a turn of a round costs while the lock is held, without copiers and with one: instructions, by callgrind.
 
-    bench/turns.py [PROGRAM]     PROGRAM: crates/bench_far_heap/out/bench_far_heap, which `rt run` builds
+    bench/turns.py PROGRAM     PROGRAM: a built bench_far_heap (bench/lay_out.sh)
 
 Sixteen objects of 4,088 bytes, all viewed, leave a log each. `turns COPIERS STEPS` makes the first so many of three steps, in one thread: a turn; all copies that
 it offered; and the turn after that, which takes the copies over and gives the logs back. Without copiers the first turn does all. A step costs what a run with it
@@ -9,7 +9,6 @@ has more than the run before. All is counted twice, and must come to the same.
 
 Ends with 1 where the longest turn with a copier has more than a third of the instructions of the turn without.
 """
-import pathlib
 import re
 import subprocess
 import sys
@@ -35,8 +34,9 @@ def step(program: str, copiers: int, number: int) -> int:
 
 
 def main() -> int:
-    root = pathlib.Path(__file__).resolve().parent.parent
-    program = sys.argv[1] if len(sys.argv) > 1 else str(root / "crates/bench_far_heap/out/bench_far_heap")
+    if len(sys.argv) != 2:
+        sys.exit(__doc__)
+    program = sys.argv[1]
     alone = step(program, 0, 1)
     offers, copies, takes = (step(program, 1, number) for number in (1, 2, 3))
     longest = max(offers, takes)

@@ -1,25 +1,14 @@
 #!/usr/bin/env bash
-# Refuses each growth of a program in turn, under valgrind's memcheck, which must find neither a leak nor a wrong access: of one that shares
-# a core, or of one that makes a heap, objects that go far in rounds, and views of them. Each run must end as without a refusal (status 0, the
-# whole output), or say that memory was refused, with status 1. Both endings must come. Prints only what is wrong.
-# usage: refuse_growth.sh bench_far_table|bench_far_heap [PROGRAM [WORD..]]; without PROGRAM the crate's is built first. WORDs stand in the place of those
-# below: `turns 1 3` makes a heap with copiers.
+# Refuses each growth of a program in turn, under valgrind's memcheck, which must find neither a leak nor a wrong access. Each run must end as
+# without a refusal (status 0, the whole output), or say that memory was refused, with status 1. Both endings must come. Prints only what is wrong.
+# usage: refuse_growth.sh PROGRAM WORD..: bench_far_table `share 0 5 3` shares a core; bench_far_heap `slow 1` makes a heap, objects that go far in
+# rounds, and views of them, `turns 1 3` one with copiers (bench/lay_out.sh). The gate does the same of refuse_far_heap (refuse_on_heap.sh).
 set -euo pipefail
 here="$(cd "$(dirname "${BASH_SOURCE[0]}")" && pwd)"
-case "${1:-}" in
-bench_far_table) words=(share 0 5 3) ;;
-bench_far_heap) words=(slow 1) ;;
-*)
-    echo "usage: refuse_growth.sh bench_far_table|bench_far_heap [PROGRAM [WORD..]]" >&2
-    exit 2
-    ;;
-esac
-crate="$here/../crates/$1"
-program="${2:-$crate/out/$1}"
-(($# < 3)) || words=("${@:3}")
+program="${1:?refuse_growth.sh PROGRAM WORD..}"
+words=("${@:2}")
 work="$(mktemp -d)"
 trap 'rm -rf "$work"' EXIT
-[[ -n "${2:-}" ]] || (cd "$crate" && rt run -- "${words[@]}") >/dev/null
 cc -O2 -shared -fPIC -o "$work/fail_malloc.so" "$here/fail_malloc.c" -ldl
 wrong=0
 
