@@ -9,6 +9,7 @@ use far_core::{Core, Event, Shape};
 use far_device::MemDevice;
 use far_evac::{Evac, Marked, Polled};
 use far_word::{LONGEST, Mark, Marks, Place, Refused};
+use std::alloc::Global;
 
 const SHAPE: Shape = Shape {
     logs: 4,
@@ -148,20 +149,32 @@ fn is_freed(evac: &mut Evac<Beset, MemDevice>) -> Option<bool> {
     None
 }
 
-// The same where the copier claims the job before a call.
-fn freed(rt: &HostRuntime, call: usize) -> Option<bool> {
-    let mut events = Vec::new(rt.alloc());
-    if !fills(&mut events, call) {
-        return None;
+// The same of a whole test.
+fn freed(evac: &mut Evac<Beset, MemDevice>) -> Option<bool> {
+    if is_given_up(evac) {
+        is_freed(evac)
+    } else {
+        None
     }
+}
+
+// The events of a test in which the copier claims the job before this call; `None` if there is no memory for them.
+fn events_of(alloc: Global, call: usize) -> Option<Vec<Event>> {
+    let mut events = Vec::new(alloc);
+    if fills(&mut events, call) {
+        Some(events)
+    } else {
+        None
+    }
+}
+
+// What comes of that test.
+fn freed_beside(rt: &HostRuntime, call: usize) -> Option<bool> {
+    let Some(events) = events_of(rt.alloc(), call) else {
+        return None;
+    };
     match beset(rt, events) {
-        Ok(mut evac) => {
-            if is_given_up(&mut evac) {
-                is_freed(&mut evac)
-            } else {
-                None
-            }
-        }
+        Ok(mut evac) => freed(&mut evac),
         Err(_) => None,
     }
 }
@@ -170,7 +183,7 @@ fn freed(rt: &HostRuntime, call: usize) -> Option<bool> {
 fn claimed(rt: &HostRuntime) -> Option<usize> {
     let mut claimed = 0usize;
     for call in 0..CALLS {
-        if !freed(rt, call)? {
+        if !freed_beside(rt, call)? {
             claimed = claimed.saturating_add(1);
         }
     }

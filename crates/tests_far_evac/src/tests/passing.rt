@@ -11,6 +11,7 @@ use far_core::Event;
 use far_device::MemDevice;
 use far_evac::{Evac, Marked, Polled};
 use far_word::{LONGEST, Mark, Marks, Place};
+use std::alloc::Global;
 
 /// How many calls of the hand nobody acts before a group, and how many looks pass it.
 const APART: usize = 2000;
@@ -141,18 +142,32 @@ fn is_passed_over(evac: &mut Evac<Beset, MemDevice>) -> bool {
         && home(evac, 0).is_none()
 }
 
-// Whether a test comes out as it should beside these groups of events.
-fn plays(rt: &HostRuntime, test: Test, groups: &[&[Event]]) -> bool {
-    let mut events = Vec::new(rt.alloc());
-    if !fills(&mut events, groups) {
-        return false;
+// The events of these groups; `None` if there is no memory for them.
+fn events_of(alloc: Global, groups: &[&[Event]]) -> Option<Vec<Event>> {
+    let mut events = Vec::new(alloc);
+    if fills(&mut events, groups) {
+        Some(events)
+    } else {
+        None
     }
+}
+
+// Whether a test comes out as it should.
+fn comes_out(evac: &mut Evac<Beset, MemDevice>, test: Test) -> bool {
+    match test {
+        Test::Clean => is_offered_clean(evac),
+        Test::Passed => passes_on(evac),
+        Test::Dropped => is_passed_over(evac),
+    }
+}
+
+// The same beside these groups of events.
+fn plays(rt: &HostRuntime, test: Test, groups: &[&[Event]]) -> bool {
+    let Some(events) = events_of(rt.alloc(), groups) else {
+        return false;
+    };
     match beset(rt, events) {
-        Ok(mut evac) => match test {
-            Test::Clean => is_offered_clean(&mut evac),
-            Test::Passed => passes_on(&mut evac),
-            Test::Dropped => is_passed_over(&mut evac),
-        },
+        Ok(mut evac) => comes_out(&mut evac, test),
         Err(_) => false,
     }
 }
