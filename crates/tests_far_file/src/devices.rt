@@ -14,7 +14,7 @@ const FIRST: &[u8] = &[1, 2, 3];
 const LONGEST: &[u8] = &[9; 4096];
 
 // Whether bytes come back under a key, by each of the two reads.
-fn gives<D: Device>(device: &mut D, alloc: Global, id: u32, wanted: &[u8]) -> bool {
+pub(crate) fn gives<D: Device>(device: &mut D, alloc: Global, id: u32, wanted: &[u8]) -> bool {
     let Ok(bytes) = device.read(id) else {
         return false;
     };
@@ -27,21 +27,34 @@ fn blames<F: Storage + Drop, L: Seal>(device: &SealedDevice<F, L>, why: FileFaul
     device.why() == Some(why)
 }
 
-// Whether three keys keep what they were given, in place of what was there, until they are let go of.
+// Whether a key takes these bytes.
+fn takes<D: Device>(device: &mut D, id: u32, bytes: &[u8]) -> bool {
+    device.write(id, bytes).is_ok()
+}
+
+// Whether three keys keep what they were given, in place of what was there.
+fn keeps_three<D: Device>(device: &mut D, alloc: Global) -> bool {
+    takes(device, 5, LONGEST)
+        && takes(device, 6, LONGEST)
+        && takes(device, 2047, &[])
+        && takes(device, 5, FIRST)
+        && gives(device, alloc, 5, FIRST)
+        && gives(device, alloc, 6, LONGEST)
+}
+
+/// The same, until they are let go of.
 pub(crate) fn keeps<F: Storage + Drop, L: Seal>(
     device: &mut SealedDevice<F, L>,
     alloc: Global,
-) -> Result<bool, DeviceFault> {
-    device.write(5, LONGEST)?;
-    device.write(6, LONGEST)?;
-    device.write(2047, &[])?;
-    device.write(5, FIRST)?;
-    let kept = gives(device, alloc, 5, FIRST) && gives(device, alloc, 6, LONGEST);
+) -> bool {
+    let kept = keeps_three(device, alloc);
     device.forget(6);
-    let empty = gives(device, alloc, 2047, &[]) && device.read(6).is_err();
-    device.write(6, FIRST)?;
-    let anew = gives(device, alloc, 6, FIRST);
-    Ok(kept && empty && anew && blames(device, FileFault::Nothing) && device.faults() == 1)
+    kept && gives(device, alloc, 2047, &[])
+        && device.read(6).is_err()
+        && takes(device, 6, FIRST)
+        && gives(device, alloc, 6, FIRST)
+        && blames(device, FileFault::Nothing)
+        && device.faults() == 1
 }
 
 #[test]
@@ -55,18 +68,33 @@ fn readme(rt: HostRuntime) -> Result<(), Fail> {
     Ok(())
 }
 
+// Whether the first bytes came back.
+fn are_first(bytes: Result<Vec<u8>, DeviceFault>) -> bool {
+    match bytes {
+        Ok(bytes) => bytes.as_slice() == FIRST,
+        Err(_) => false,
+    }
+}
+
+// Whether a device over memory keeps what it is given, also as a caller of each kind says.
+fn memory_keeps(alloc: Global) -> bool {
+    let mut device = FileDevice::<MemStorage>::new(alloc, MemStorage::new(alloc));
+    keeps(&mut device, alloc)
+        && are_first(over_memory(&mut device, 7, FIRST))
+        && are_first(over_storage(&mut device, 8, FIRST))
+}
+
+// Whether one with a seal does.
+fn sealed_keeps<L: Seal>(alloc: Global) -> bool {
+    let mut device = SealedDevice::<MemStorage, L>::new(alloc, MemStorage::new(alloc));
+    keeps(&mut device, alloc)
+}
+
 #[test]
-fn over_storage_in_memory(rt: HostRuntime) -> Result<(), Fail> {
-    let alloc = rt.alloc();
-    let mut plain = FileDevice::<MemStorage>::new(alloc, MemStorage::new(alloc));
-    assert!(rt; keeps(&mut plain, alloc)?);
-    assert!(rt; over_memory(&mut plain, 7, FIRST)?.as_slice() == FIRST);
-    assert!(rt; over_storage(&mut plain, 8, FIRST)?.as_slice() == FIRST);
-    let mut sealed = SealedDevice::<MemStorage, Digest>::new(alloc, MemStorage::new(alloc));
-    assert!(rt; keeps(&mut sealed, alloc)?);
-    let mut copied = SealedDevice::<MemStorage, WholeCopy>::new(alloc, MemStorage::new(alloc));
-    assert!(rt; keeps(&mut copied, alloc)?);
-    Ok(())
+fn over_storage_in_memory(rt: HostRuntime) {
+    assert!(rt; memory_keeps(rt.alloc()));
+    assert!(rt; sealed_keeps::<Digest>(rt.alloc()));
+    assert!(rt; sealed_keeps::<WholeCopy>(rt.alloc()));
 }
 
 #[test]

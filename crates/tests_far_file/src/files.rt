@@ -1,54 +1,84 @@
 //! Devices over a file of the system.
 
-use super::devices::keeps;
+use super::devices::{gives, keeps};
 use far_device::Device;
-use far_file::{Digest, FileDevice, FileFault, NewFile, SealedDevice, StorageFault};
+use far_file::{Digest, FileDevice, FileFault, NewFile, NoSeal, Seal, SealedDevice, StorageFault};
+use std::alloc::Global;
 use std::fs::File;
+use std::io;
 use std::io::ErrorKind;
 use std::test::*;
 
-#[test]
-fn over_a_file(rt: HostRuntime) -> Result<(), Fail> {
-    let file = NewFile::new().replacing().open(&rt, "kept")?;
-    let mut device = FileDevice::<File>::new(rt.alloc(), file);
-    assert!(rt; keeps(&mut device, rt.alloc())?);
-    let file = NewFile::new().replacing().open(&rt, "sealed")?;
-    let mut device = SealedDevice::<File, Digest>::new(rt.alloc(), file);
-    assert!(rt; keeps(&mut device, rt.alloc())?);
-    Ok(())
+// Whether a device over a new file keeps what it is given.
+fn new_keeps<L: Seal>(rt: &HostRuntime, name: &str) -> bool {
+    match NewFile::new().replacing().open(rt, name) {
+        Ok(file) => keeps(
+            &mut SealedDevice::<File, L>::new(rt.alloc(), file),
+            rt.alloc(),
+        ),
+        Err(_) => false,
+    }
 }
 
 #[test]
-fn a_file_is_cut_short_under_the_device(rt: HostRuntime) -> Result<(), Fail> {
-    let file = NewFile::new().replacing().open(&rt, "cut")?;
-    let other = file.try_clone()?;
-    let mut device = FileDevice::<File>::new(rt.alloc(), file);
-    device.write(1, &[1, 2, 3])?;
-    other.set_len(1026)?;
-    assert!(rt; device.read(1).is_err());
-    assert!(rt; device.why() == Some(FileFault::Storage(StorageFault::Short)));
-    device.write(1, &[4])?;
-    assert!(rt; device.read(1)?.as_slice() == [4].as_slice());
-    Ok(())
+fn over_a_file(rt: HostRuntime) {
+    assert!(rt; new_keeps::<NoSeal>(&rt, "kept"));
+    assert!(rt; new_keeps::<Digest>(&rt, "sealed"));
+}
+
+// Whether a write fails for this.
+fn fails_for(device: &mut FileDevice<File>, why: StorageFault) -> bool {
+    device.write(1, &[1, 2, 3]).is_err() && device.why() == Some(FileFault::Storage(why))
+}
+
+// Whether a read fails once the file is cut, and the device works again after a write.
+fn is_cut(device: &mut FileDevice<File>, alloc: Global, file: &File) -> bool {
+    device.write(1, &[1, 2, 3]).is_ok()
+        && file.set_len(1026).is_ok()
+        && device.read(1).is_err()
+        && device.why() == Some(FileFault::Storage(StorageFault::Short))
+        && device.write(1, &[4]).is_ok()
+        && gives(device, alloc, 1, &[4])
+}
+
+// The same of a device over a new file, of which another handle cuts it.
+fn is_cut_under(rt: &HostRuntime, file: File) -> bool {
+    match file.try_clone() {
+        Ok(other) => is_cut(
+            &mut FileDevice::<File>::new(rt.alloc(), file),
+            rt.alloc(),
+            &other,
+        ),
+        Err(_) => false,
+    }
 }
 
 #[test]
-fn a_disk_is_full(rt: HostRuntime) -> Result<(), Fail> {
-    let file = NewFile::new().replacing().open(&rt, "/dev/full")?;
-    let mut device = FileDevice::<File>::new(rt.alloc(), file);
-    assert!(rt; device.write(1, &[1, 2, 3]).is_err());
-    assert!(rt; device.why() == Some(FileFault::Storage(StorageFault::Full)));
-    Ok(())
+fn a_file_is_cut_short_under_the_device(rt: HostRuntime) {
+    match NewFile::new().replacing().open(&rt, "cut") {
+        Ok(file) => assert!(rt; is_cut_under(&rt, file)),
+        Err(_) => assert!(rt; false),
+    }
+}
+
+// Whether a write to a device over this file fails for this.
+fn file_fails(alloc: Global, file: io::Result<File>, why: StorageFault) -> bool {
+    match file {
+        Ok(file) => fails_for(&mut FileDevice::<File>::new(alloc, file), why),
+        Err(_) => false,
+    }
 }
 
 #[test]
-fn a_file_that_is_not_open_for_writing_fails(rt: HostRuntime) -> Result<(), Fail> {
-    let file = NewFile::new().replacing().open(&rt, "read")?;
-    drop(file);
-    let mut device = FileDevice::<File>::new(rt.alloc(), File::open(&rt, "read")?);
-    assert!(rt; device.write(1, &[1, 2, 3]).is_err());
-    assert!(rt; device.why() == Some(FileFault::Storage(StorageFault::Failed)));
-    Ok(())
+fn a_disk_is_full(rt: HostRuntime) {
+    let file = NewFile::new().replacing().open(&rt, "/dev/full");
+    assert!(rt; file_fails(rt.alloc(), file, StorageFault::Full));
+}
+
+#[test]
+fn a_file_that_is_not_open_for_writing_fails(rt: HostRuntime) {
+    drop(NewFile::new().replacing().open(&rt, "read"));
+    assert!(rt; file_fails(rt.alloc(), File::open(&rt, "read"), StorageFault::Failed));
 }
 
 #[test]

@@ -16,7 +16,6 @@ use std::alloc::Global;
 use std::fs::File;
 use std::marker::Brand;
 use std::sync::Wait;
-use std::test::*;
 
 const SHAPE: Shape = Shape {
     logs: 4,
@@ -66,6 +65,22 @@ fn told_of<K: HeapName, D: Device + Drop, R: Wait>(
     (left, (view, last.get()))
 }
 
+// The same if three objects can be made before.
+fn told_if_made<K: HeapName, D: Device + Drop, R: Wait>(
+    rt: &R,
+    heap: &Heap<K, D>,
+    mut mutator: Mutator<K, D>,
+    last: &LastFault,
+    most: usize,
+    cut: Option<&File>,
+) -> Option<(Told, Told)> {
+    if makes_three(rt, &mut mutator).is_ok() {
+        Some(told_of(rt, heap, mutator, last, most, cut))
+    } else {
+        None
+    }
+}
+
 // The same on a heap of this name.
 fn runs<K: HeapName, D: Device + Drop, R: Wait>(
     rt: &R,
@@ -77,13 +92,41 @@ fn runs<K: HeapName, D: Device + Drop, R: Wait>(
 ) -> Option<(Told, Told)>
     requires { blank.heap ≡ K.heap }
 {
-    let (heap, mutators) = Heap::<K, D>::new(alloc, blank).ok()?;
-    let mut mutator = mutators.into_iter().next()?;
-    makes_three(rt, &mut mutator).ok()?;
-    Some(told_of(rt, &heap, mutator, last, most, cut))
+    match Heap::<K, D>::new(alloc, blank) {
+        Ok((heap, mut mutators)) => match mutators.pop() {
+            Some(mutator) => told_if_made(rt, &heap, mutator, last, most, cut),
+            None => None,
+        },
+        Err(_) => None,
+    }
 }
 
-// The same on a heap over a device, of which a second handle tells the same. Refused so: `last_fault` that hands out a handle on another word the second time.
+// The same on a heap over a device.
+fn runs_over<D: Device + Drop, R: Wait>(
+    rt: &R,
+    alloc: Global,
+    device: D,
+    last: &LastFault,
+    most: usize,
+    cut: Option<&File>,
+) -> Option<(Told, Told)> {
+    match Blank::new(alloc, SHAPE, device) {
+        Ok(blank) => runs::<Brand, D, R>(rt, alloc, blank, last, most, cut),
+        Err(_) => None,
+    }
+}
+
+// Two handles of a device.
+fn handles<F: Storage + Drop, L: Seal>(
+    device: &mut SealedDevice<F, L>,
+) -> Option<(LastFault, LastFault)> {
+    match (device.last_fault(), device.last_fault()) {
+        (Ok(one), Ok(other)) => Some((one, other)),
+        _ => None,
+    }
+}
+
+// The same, if a second handle tells the same in the end. Refused so: `last_fault` that hands out a handle on another word the second time.
 fn asked<F: Storage + Drop, L: Seal, R: Wait>(
     rt: &R,
     alloc: Global,
@@ -91,34 +134,55 @@ fn asked<F: Storage + Drop, L: Seal, R: Wait>(
     most: usize,
     cut: Option<&File>,
 ) -> Option<(Told, Told)> {
-    let last = device.last_fault().ok()?;
-    let other = device.last_fault().ok()?;
-    let blank = Blank::new(alloc, SHAPE, device).ok()?;
-    let told = runs::<Brand, _, R>(rt, alloc, blank, &last, most, cut)?;
+    let Some((last, other)) = handles(&mut device) else {
+        return None;
+    };
+    let told = runs_over(rt, alloc, device, &last, most, cut);
     if other.get() == last.get() {
-        Some(told)
+        told
     } else {
         None
     }
 }
 
-#[test]
-fn a_full_disk_is_told(rt: HostRuntime) -> Result<(), Fail> {
-    let file = NewFile::new().replacing().open(&rt, "/dev/full")?;
-    let device = FileDevice::<File>::new(rt.alloc(), file);
-    let full = refused(FileFault::Storage(StorageFault::Full));
-    assert!(rt; asked(&rt, rt.alloc(), device, 1, None) == Some((full, (false, full.1))));
-    Ok(())
+// The same of a device over this file.
+fn asked_of_file<R: Wait>(
+    rt: &R,
+    alloc: Global,
+    file: File,
+    cut: Option<&File>,
+) -> Option<(Told, Told)> {
+    asked(rt, alloc, FileDevice::<File>::new(alloc, file), 1, cut)
 }
 
 #[test]
-fn a_file_that_is_cut_short_is_told(rt: HostRuntime) -> Result<(), Fail> {
-    let file = NewFile::new().replacing().open(&rt, "cut_under_a_heap")?;
-    let other = file.try_clone()?;
-    let device = FileDevice::<File>::new(rt.alloc(), file);
+fn a_full_disk_is_told(rt: HostRuntime) {
+    let full = refused(FileFault::Storage(StorageFault::Full));
+    match NewFile::new().replacing().open(&rt, "/dev/full") {
+        Ok(file) => {
+            assert!(rt;
+                asked_of_file(&rt, rt.alloc(), file, None) == Some((full, (false, full.1)))
+            );
+        }
+        Err(_) => assert!(rt; false),
+    }
+}
+
+// What is told of a file that another handle cuts.
+fn asked_of_cut<R: Wait>(rt: &R, alloc: Global, file: File) -> Option<(Told, Told)> {
+    match file.try_clone() {
+        Ok(other) => asked_of_file(rt, alloc, file, Some(&other)),
+        Err(_) => None,
+    }
+}
+
+#[test]
+fn a_file_that_is_cut_short_is_told(rt: HostRuntime) {
     let short = refused(FileFault::Storage(StorageFault::Short));
-    assert!(rt; asked(&rt, rt.alloc(), device, 1, Some(&other)) == Some((NONE, short)));
-    Ok(())
+    match NewFile::new().replacing().open(&rt, "cut_under_a_heap") {
+        Ok(file) => assert!(rt; asked_of_cut(&rt, rt.alloc(), file) == Some((NONE, short))),
+        Err(_) => assert!(rt; false),
+    }
 }
 
 #[test]
