@@ -97,7 +97,9 @@ impl SplitText {
         if !has_thread(mutators, command) {
             return Ok(false);
         }
-        self.numbers.push(number)?;
+        let Ok(()) = self.numbers.push(number) else {
+            return Err(AllocError);
+        };
         match self.commands.push(command) {
             Ok(true) => Ok(true),
             other => {
@@ -115,7 +117,9 @@ impl SplitText {
         for place in 0..self.len() {
             let (_, command) = self.at(place);
             if thread.runs(command) {
-                places.push(place as u32)?;
+                let Ok(()) = places.push(place as u32) else {
+                    return Err(AllocError);
+                };
             }
         }
         Ok(Lines { text: self, places })
