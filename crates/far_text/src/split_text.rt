@@ -60,10 +60,11 @@ impl SplitText {
     pub(crate) fn new(alloc: Global) -> Result<SplitText, AllocError>
         ensures { IfOk result (λ text. text ≡ []) }
     {
-        Ok(SplitText {
-            commands: Commands::new(alloc)?,
-            numbers: Vec::new(alloc),
-        })
+        let Ok(commands) = Commands::new(alloc) else {
+            return Err(AllocError);
+        };
+        let numbers = Vec::new(alloc);
+        Ok(SplitText { commands, numbers })
     }
 
     /// How many they are.
