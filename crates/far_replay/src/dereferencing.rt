@@ -15,7 +15,7 @@ ghost use Rattle.far_replay.specs.Interpreter.{Brings, BringsToView, Dereference
 ghost use Rattle.far_replay.specs.Moment.{KeepsRound, state_in};
 ghost use Rattle.far_replay.specs.Spent.{SpentBy};
 
-use crate::owners::{FarSide, core_of};
+use crate::owners::{FarSide, core_of, make_event};
 use far_book::Plain;
 use far_core::Event;
 use far_evac::Evac;
@@ -29,9 +29,9 @@ pub fn open(evac: &mut Evac<Plain, FarSide>, owner: u8)
     ensures device { evac.new.book.device ≡ evac.old.book.device }
 {
     if !core_of(evac).has_epoch(owner) {
-        evac.owner(Event::ReadEpoch { owner });
+        make_event(evac, Event::ReadEpoch { owner });
     }
-    evac.owner(Event::Open { owner });
+    make_event(evac, Event::Open { owner });
 }
 
 /// Pins an owner's object, unless it is held already. `Err` with the cell as it was, where the pin gave no view.
@@ -218,11 +218,14 @@ fn move_near(evac: &mut Evac<Plain, FarSide>, owner: u8, pointer: u16) -> Result
     ensures brought { Brings evac.old evac.new owner pointer result }
     ensures far { IfErr result (λ why. KeepsFar why → says_near (read_of ((state_in evac.old).cell pointer)) ≡ false) }
 {
-    evac.owner(Event::Ask {
-        owner,
-        pointer,
-        mark: Mark::Moved,
-    });
+    make_event(
+        evac,
+        Event::Ask {
+            owner,
+            pointer,
+            mark: Mark::Moved,
+        },
+    );
     match evac.move_now(pointer) {
         Ok(Some(_)) => Ok(()),
         Ok(None) => unreachable!(),

@@ -16,7 +16,7 @@ ghost use Rattle.far_replay.specs.Outcome.{IsInScratch};
 ghost use Rattle.far_replay.specs.Turn.{reply_to};
 
 use crate::outcome::Outcome;
-use crate::owners::{FarSide, core_of, own_pointer};
+use crate::owners::{FarSide, core_of, make_event, own_pointer};
 use far_book::Plain;
 use far_core::Event;
 use far_evac::Evac;
@@ -41,11 +41,14 @@ pub fn drop_object(evac: &mut Evac<Plain, FarSide>, owner: u8, pointer: u64) -> 
     if core_of(evac).is_held(pointer) {
         return Outcome::Refused(Refused::Held);
     }
-    evac.owner(Event::Ask {
-        owner,
-        pointer,
-        mark: Mark::Dropped,
-    });
+    make_event(
+        evac,
+        Event::Ask {
+            owner,
+            pointer,
+            mark: Mark::Dropped,
+        },
+    );
     evac.retire(pointer);
     Outcome::Done
 }

@@ -10,7 +10,7 @@ ghost use Rattle.far_replay.specs.Outcome.{IsInScratch};
 ghost use Rattle.far_replay.specs.Turn.{reply_to};
 
 use crate::outcome::Outcome;
-use crate::owners::{FarSide, core_of};
+use crate::owners::{FarSide, core_of, make_event};
 use far_book::Plain;
 use far_core::Event;
 use far_evac::Evac;
@@ -29,6 +29,6 @@ pub fn read_epoch(evac: &mut Evac<Plain, FarSide>, owner: u8) -> Outcome
     if core_of(evac).is_open(owner) {
         return Outcome::Refused(Refused::AlreadyOpen);
     }
-    evac.owner(Event::ReadEpoch { owner });
+    make_event(evac, Event::ReadEpoch { owner });
     Outcome::EpochRead(core_of(evac).epoch())
 }

@@ -3,11 +3,15 @@
 ghost use Rattle.std.specs.Prelude.{◌≡◌, ◌<◌, ◌≤◌, ◌/◌, true, false, IfSome, IfNone};
 ghost use Rattle.far_word.specs.declared.sizes.TheConstants.{CELLS};
 ghost use Rattle.far_book.specs.book.Ledger.{IsLowestFree};
-ghost use Rattle.far_replay.specs.Moment.{state_in};
+ghost use Rattle.far_core.specs.events.Legal.{Legal};
+ghost use Rattle.far_core.specs.events.Step.{after, answer, step_of};
+ghost use Rattle.far_hand.specs.Makers.{is_owners};
+ghost use Rattle.far_evac.specs.MomentLaw.{MomentLaw};
+ghost use Rattle.far_replay.specs.Moment.{KeepsRound, moment_in, state_in};
 ghost use Rattle.far_replay.specs.Objects.{uses};
 
 use far_book::Plain;
-use far_core::Core;
+use far_core::{Core, Event, Reply};
 use far_device::{FailAt, Liar, MemDevice};
 use far_evac::Evac;
 use far_word::CELLS;
@@ -21,6 +25,29 @@ pub fn core_of(evac: &Evac<Plain, FarSide>) -> &Core
     ensures { result.now ≡ evac.now.book.near.core }
 {
     evac.book().core()
+}
+
+/// The law of the round holds, and nothing is copied beside. It stands here once for all, as the next does: a call of what is made
+/// for any far side costs the check of each function that has one.
+#[inline(always)]
+pub fn keeps_law(evac: &Evac<Plain, FarSide>)
+    ensures moment { MomentLaw (moment_in evac.now) }
+    ensures exact { evac.now.copying ≡ false }
+{
+    evac.keeps_law();
+}
+
+/// Makes an owner's event.
+#[inline(always)]
+pub fn make_event(evac: &mut Evac<Plain, FarSide>, event: Event) -> Reply
+    ensures made { is_owners event ≡ true → (state_in evac.new, result) ≡ step_of (state_in evac.old) event }
+    ensures legal { is_owners event ≡ true → Legal (state_in evac.old) event →
+        (state_in evac.new ≡ after (state_in evac.old) event) × (result ≡ answer (state_in evac.old) event) }
+    ensures order { evac.new.book.order ≡ evac.old.book.order }
+    ensures device { evac.new.book.device ≡ evac.old.book.device }
+    ensures round { KeepsRound evac.old evac.new }
+{
+    evac.owner(event)
 }
 
 /// The lowest free cell of an owner; `None` where it uses all of them.

@@ -17,7 +17,7 @@ ghost use Rattle.far_reply.specs.Reply.{Ended, Halted, Refused as Refusal};
 ghost use Rattle.far_replay.specs.Turn.{effect, refusal, reply_to};
 
 use crate::outcome::{Scratch, Stepped};
-use crate::owners::FarSide;
+use crate::owners::{FarSide, keeps_law};
 use far_book::Plain;
 use far_evac::{Evac, EvacFault, Polled, RoundEnd};
 use far_policy::{Chosen, LeastLive, Oldest, Scripted};
@@ -34,7 +34,7 @@ fn choose(evac: &mut Evac<Plain, FarSide>, choice: Choice, most: u8) -> Result<C
     ensures unchanged { IfErr result (λ _. moment_in evac.new ≡ moment_in evac.old) }
     ensures device { evac.new.book.device ≡ evac.old.book.device }
 {
-    evac.keeps_law();
+    keeps_law(evac);
     let most = usize::from(most);
     match choice {
         Choice::By(policy) => match policy {
@@ -122,7 +122,7 @@ fn refused_step(scratch: &mut Scratch, fault: EvacFault) -> Stepped
 fn evacuate(evac: &mut Evac<Plain, FarSide>, scratch: &mut Scratch, count: u64) -> Stepped
     ensures made { Makes evac.old (Evacuator (Evacuate count)) (told_by scratch.new result) evac.new }
 {
-    evac.keeps_law();
+    keeps_law(evac);
     match evac.evacuate_some(count) {
         Ok(progress) => {
             scratch.progress = progress;
@@ -160,7 +160,7 @@ fn run_by(
     ensures spent { SpentBy (stopper result) evac.old evac.new }
     ensures holds { HoldsBy (Evacuator (Round (as_policy policy) most turns)) (state_in evac.old) (state_in evac.new) (far_in evac.old) (far_in evac.new) }
 {
-    evac.keeps_law();
+    keeps_law(evac);
     let most = usize::from(most);
     match policy {
         Policy::Oldest => evac.run_round_alone(&mut Oldest, most, turns),

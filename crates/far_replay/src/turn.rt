@@ -31,7 +31,7 @@ use crate::dropping::drop_object;
 use crate::epochs::read_epoch;
 use crate::inquiries::{audit, find_object, tell_log, tell_logs};
 use crate::outcome::{Outcome, Scratch};
-use crate::owners::{FarSide, core_of, free_cell, own_pointer, owner_of};
+use crate::owners::{FarSide, core_of, free_cell, make_event, own_pointer, owner_of};
 use crate::rounds::make_step;
 use crate::viewing::{try_object, view_object};
 use far_book::Plain;
@@ -330,7 +330,7 @@ fn place_new(evac: &mut Evac<Plain, FarSide>, owner: u8, len: u64, ds: u64) -> R
     let Ok(_) = evac.place(pointer, len as u16, ds as u8) else {
         return Err(Refused::NoRoom);
     };
-    evac.owner(Event::Adopt { owner, pointer });
+    make_event(evac, Event::Adopt { owner, pointer });
     Ok(pointer)
 }
 
@@ -382,7 +382,7 @@ fn close_scope(evac: &mut Evac<Plain, FarSide>, owner: u8) -> Outcome
     if !core_of(evac).is_open(owner) {
         return Outcome::Refused(Refused::Closed);
     }
-    evac.owner(Event::Close { owner });
+    make_event(evac, Event::Close { owner });
     Outcome::Done
 }
 

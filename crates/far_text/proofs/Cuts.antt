@@ -1,9 +1,11 @@
 -- Where words and lines end.
-use Rattle.std.proofs.Common.{◌≡◌, ℕ, ◌<◌, ◌≤◌, ◌+◌, suc, zero, ◌==◌, List, [], ◌∷◌, ◌++◌, length, take, drop, get_or, true, false, Bool, cond, sym, ◌∙◌, ap, refl, arith, append-nil}
-use Rattle.std.specs.List.{slice_split, onto_first, join_with_byte}
+use Rattle.std.proofs.Common.{◌≡◌, ℕ, ◌<◌, ◌≤◌, ◌+◌, suc, zero, ◌==◌, List, [], ◌∷◌, ◌++◌, length, take, drop, get_or, true, false, Bool, cond, not, add-one, take-append-drop, sym, ◌∙◌, ap, refl, arith, append-nil}
+use Rattle.std.specs.List.{slice_split, onto_first, join_with_byte, list_all}
 use Rattle.std.proofs.lemmas.List.Splits.{join_with_byte-slice_split}
 use Rattle.std.proofs.lemmas.List.{length-append}
+use Rattle.std.proofs.lemmas.Bool.{and_parts}
 use Rattle.std.proofs.lemmas.Bool.Decides.{nat_tests}
+use Rattle.std.proofs.Math.Seq.{drop-cons}
 use Rattle.far_text.specs.Grammar.{lines_of, line_words}
 use Rattle.far_text.specs.Cursor.{is_end, front_of, rest_of, first_line, lines_after_first, words_in}
 
@@ -53,6 +55,35 @@ word_at (b ∷ text) (suc i) h n =
 pub word_stops : (text : List ℕ) (i : ℕ) (rest : List (List ℕ)) → i ≤ length text → NoEnds text i → words_in (drop i text) ≡ [] ∷ rest → words_in text ≡ take i text ∷ rest
 word_stops text i rest h n e =
     (word_at text i h n).0 ∙ ap (λ l. (take i text ++ front_of l) ∷ rest_of l) e ∙ ap (λ w. w ∷ rest) (append-nil (take i text))
+
+not-true : (b : Bool) → not b ≡ true → b ≡ false
+not-true true e = sym e
+not-true false e = refl
+
+-- a name and a space in front
+name_on : (name rest : List ℕ) → list_all (λ b. not (is_end b)) name ≡ true
+    → (words_in (name ++ 32 ∷ rest) ≡ name ∷ words_in rest) × (lines_after_first (name ++ 32 ∷ rest) ≡ lines_after_first rest)
+name_on [] rest e = space_on rest
+name_on (b ∷ name) rest e =
+    let parts = and_parts (not (is_end b)) (list_all (λ c. not (is_end c)) name) e in
+    let on = word_on b (name ++ 32 ∷ rest) (not-true (is_end b) parts.0) in
+    let more = name_on name rest parts.1 in
+    (on.0 ∙ ap (λ l. (b ∷ front_of l) ∷ rest_of l) more.0, on.1 ∙ more.1)
+
+-- a front that is the same byte by byte
+front_same : (text name : List ℕ) → length name ≤ length text → ((k : ℕ) → k < length name → get_or text k 0 ≡ get_or name k 0) → take (length name) text ≡ name
+front_same text [] h e = refl
+front_same [] (b ∷ name) h e = absurd (omega arith)
+front_same (a ∷ text) (b ∷ name) h e = rw (e 0 (omega arith)) (ap (λ l. b ∷ l) (front_same text name (omega arith) (λ k less. e (suc k) (omega arith))))
+
+pub name_at : (text name : List ℕ) → length name < length text → ((k : ℕ) → k < length name → get_or text k 0 ≡ get_or name k 0) → get_or text (length name) 0 ≡ 32 → list_all (λ b. not (is_end b)) name ≡ true
+    → (words_in text ≡ name ∷ words_in (drop (length name + 1) text)) × (lines_after_first text ≡ lines_after_first (drop (length name + 1) text))
+name_at text name longer same space within =
+    let n = length name in
+    let rest : drop n text ≡ 32 ∷ drop (n + 1) text = rw add-one (drop-cons text n 0 longer ∙ ap (λ b. b ∷ drop (suc n) text) space) in
+    let whole : name ++ 32 ∷ drop (n + 1) text ≡ text = ap (λ l. l ++ 32 ∷ drop (n + 1) text) (sym (front_same text name (omega arith) same)) ∙ ap (λ l. take n text ++ l) (sym rest) ∙ take-append-drop n text in
+    let on = name_on name (drop (n + 1) text) within in
+    (sym (ap words_in whole) ∙ on.0, sym (ap lines_after_first whole) ∙ on.1)
 
 -- the first line goes on behind bytes that are no newline
 pub line_at : (text : List ℕ) (i : ℕ) → i ≤ length text → ((k : ℕ) → k < i → (get_or text k 0 == 10) ≡ false)

@@ -13,7 +13,7 @@ use crate::command::{
     read_spelled, view_spelled, write_spelled,
 };
 use crate::commands::Commands;
-use crate::cursor::Rest;
+use crate::cursor::{Rest, after_name};
 use crate::line::{Line, comment_first, line_spelled};
 use std::alloc::AllocError;
 
@@ -40,7 +40,10 @@ fn add_read<'a>(
         let Entry::Command(command) = entry else {
             return Ok(None);
         };
-        if !commands.push(command)? {
+        let Ok(kept) = commands.push(command) else {
+            return Err(AllocError);
+        };
+        if !kept {
             return Ok(None);
         }
     }
@@ -104,6 +107,47 @@ fn add_rarer<'a>(
     }
 }
 
+// Adds the command of the first line of a text, found by its first byte where objects or scopes come or go, else by its first
+// word.
+#[inline(always)]
+fn add_coming<'a>(
+    commands: &mut Commands,
+    text: &'a [u8],
+) -> Result<Option<Option<&'a [u8]>>, AllocError>
+    requires few { length commands.old ≤ LONGEST_TEXT }
+    requires some { 0 < length text.now }
+    requires content { (slice_index text.now 0 == 10) ≡ false }
+    requires other { (slice_index text.now 0 == 35) ≡ false }
+    ensures added { IfOk result (λ found. IfSome found (λ _. with_line commands.old (line_of (first_line text.now)) ≡ Some commands.new)) }
+    ensures lines { IfOk result (λ found. IfSome found (λ after. lines_left after ≡ lines_after_first text.now)) }
+    ensures bad { IfOk result (λ found. IfNone found (with_line commands.old (line_of (first_line text.now)) ≡ None)) }
+{
+    match text[0] {
+        b'n' => {
+            if let Some(rest) = after_name(text, b"new") {
+                return add_spelled(commands, text, new_spelled(Rest::Words(rest)));
+            }
+        }
+        b'd' => {
+            if let Some(rest) = after_name(text, b"drop") {
+                return add_spelled(commands, text, drop_spelled(Rest::Words(rest)));
+            }
+        }
+        b'o' => {
+            if let Some(rest) = after_name(text, b"open") {
+                return add_spelled(commands, text, open_spelled(Rest::Words(rest)));
+            }
+        }
+        b'c' => {
+            if let Some(rest) = after_name(text, b"close") {
+                return add_spelled(commands, text, close_spelled(Rest::Words(rest)));
+            }
+        }
+        _ => {}
+    }
+    add_rarer(commands, text)
+}
+
 // Adds the command of the first line of a text. Those that traces are full of are known by their first bytes, and each is
 // added where it is read.
 #[inline(always)]
@@ -119,30 +163,25 @@ fn add_entry<'a>(
     ensures lines { IfOk result (λ found. IfSome found (λ after. lines_left after ≡ lines_after_first text.now)) }
     ensures bad { IfOk result (λ found. IfNone found (with_line commands.old (line_of (first_line text.now)) ≡ None)) }
 {
-    match text {
-        [b'r', b'e', b'a', b'd', b' ', rest @ ..] => {
-            add_spelled(commands, text, read_spelled(Rest::Words(rest)))
+    match text[0] {
+        b'r' => {
+            if let Some(rest) = after_name(text, b"read") {
+                return add_spelled(commands, text, read_spelled(Rest::Words(rest)));
+            }
         }
-        [b'w', b'r', b'i', b't', b'e', b' ', rest @ ..] => {
-            add_spelled(commands, text, write_spelled(Rest::Words(rest)))
+        b'w' => {
+            if let Some(rest) = after_name(text, b"write") {
+                return add_spelled(commands, text, write_spelled(Rest::Words(rest)));
+            }
         }
-        [b'v', b'i', b'e', b'w', b' ', rest @ ..] => {
-            add_spelled(commands, text, view_spelled(Rest::Words(rest)))
+        b'v' => {
+            if let Some(rest) = after_name(text, b"view") {
+                return add_spelled(commands, text, view_spelled(Rest::Words(rest)));
+            }
         }
-        [b'n', b'e', b'w', b' ', rest @ ..] => {
-            add_spelled(commands, text, new_spelled(Rest::Words(rest)))
-        }
-        [b'd', b'r', b'o', b'p', b' ', rest @ ..] => {
-            add_spelled(commands, text, drop_spelled(Rest::Words(rest)))
-        }
-        [b'o', b'p', b'e', b'n', b' ', rest @ ..] => {
-            add_spelled(commands, text, open_spelled(Rest::Words(rest)))
-        }
-        [b'c', b'l', b'o', b's', b'e', b' ', rest @ ..] => {
-            add_spelled(commands, text, close_spelled(Rest::Words(rest)))
-        }
-        _ => add_rarer(commands, text),
+        _ => return add_coming(commands, text),
     }
+    add_rarer(commands, text)
 }
 
 /// Adds the command of the first line of a text, if it says one, and nothing where it is passed over. The lines after it;

@@ -170,7 +170,9 @@ fn heap_at_end(logs: u64, mutators: u64, rest: Rest<'_>) -> Option<Spelled<'_>>
             Some((entry, lines))
         }
         Rest::Words(text) => {
-            let (epoch, rest) = number_first(text)?;
+            let Some((epoch, rest)) = number_first(text) else {
+                return None;
+            };
             let entry = Entry::Heap {
                 logs,
                 mutators,
@@ -185,8 +187,12 @@ fn heap_spelled(rest: Rest<'_>) -> Option<Spelled<'_>>
     ensures value { option_and_then (λ found. entry_spelled found.0) result ≡ entry_from (NumbersAndOneOr 2 0 says_heap) (words_left rest.entry) }
     ensures lines { IfSome result (λ found. lines_left found.1 ≡ lines_after rest.entry) }
 {
-    let (logs, rest) = next_number_of(rest)?;
-    let (mutators, rest) = next_number_of(rest)?;
+    let Some((logs, rest)) = next_number_of(rest) else {
+        return None;
+    };
+    let Some((mutators, rest)) = next_number_of(rest) else {
+        return None;
+    };
     heap_at_end(logs, mutators, rest)
 }
 
@@ -195,9 +201,15 @@ pub fn new_spelled(rest: Rest<'_>) -> Option<Spelled<'_>>
     ensures value { option_and_then (λ found. entry_spelled found.0) result ≡ entry_from (Numbers 3 asks_new) (words_left rest.entry) }
     ensures lines { IfSome result (λ found. lines_left found.1 ≡ lines_after rest.entry) }
 {
-    let (mutator, rest) = next_number_of(rest)?;
-    let (len, rest) = next_number_of(rest)?;
-    let (structure, rest) = next_number_of(rest)?;
+    let Some((mutator, rest)) = next_number_of(rest) else {
+        return None;
+    };
+    let Some((len, rest)) = next_number_of(rest) else {
+        return None;
+    };
+    let Some((structure, rest)) = next_number_of(rest) else {
+        return None;
+    };
     let request = Request::New { len, structure };
     at_end(Entry::Command(Command::Mutator { mutator, request }), rest)
 }
@@ -207,7 +219,9 @@ pub fn open_spelled(rest: Rest<'_>) -> Option<Spelled<'_>>
     ensures value { option_and_then (λ found. entry_spelled found.0) result ≡ entry_from (Numbers 1 asks_open) (words_left rest.entry) }
     ensures lines { IfSome result (λ found. lines_left found.1 ≡ lines_after rest.entry) }
 {
-    let (mutator, rest) = next_number_of(rest)?;
+    let Some((mutator, rest)) = next_number_of(rest) else {
+        return None;
+    };
     let request = Request::Open;
     at_end(Entry::Command(Command::Mutator { mutator, request }), rest)
 }
@@ -217,10 +231,18 @@ pub fn write_spelled(rest: Rest<'_>) -> Option<Spelled<'_>>
     ensures value { option_and_then (λ found. entry_spelled found.0) result ≡ entry_from (NumbersAndBytes 3 asks_write) (words_left rest.entry) }
     ensures lines { IfSome result (λ found. lines_left found.1 ≡ lines_after rest.entry) }
 {
-    let (mutator, rest) = next_number_of(rest)?;
-    let (pointer, rest) = next_number_of(rest)?;
-    let (from, rest) = next_number_of(rest)?;
-    let (bytes, lines) = last_bytes_of(rest)?;
+    let Some((mutator, rest)) = next_number_of(rest) else {
+        return None;
+    };
+    let Some((pointer, rest)) = next_number_of(rest) else {
+        return None;
+    };
+    let Some((from, rest)) = next_number_of(rest) else {
+        return None;
+    };
+    let Some((bytes, lines)) = last_bytes_of(rest) else {
+        return None;
+    };
     let request = Request::Write {
         pointer,
         from,
@@ -235,10 +257,18 @@ pub fn read_spelled(rest: Rest<'_>) -> Option<Spelled<'_>>
     ensures value { option_and_then (λ found. entry_spelled found.0) result ≡ entry_from (Numbers 4 asks_read) (words_left rest.entry) }
     ensures lines { IfSome result (λ found. lines_left found.1 ≡ lines_after rest.entry) }
 {
-    let (mutator, rest) = next_number_of(rest)?;
-    let (pointer, rest) = next_number_of(rest)?;
-    let (from, rest) = next_number_of(rest)?;
-    let (len, rest) = next_number_of(rest)?;
+    let Some((mutator, rest)) = next_number_of(rest) else {
+        return None;
+    };
+    let Some((pointer, rest)) = next_number_of(rest) else {
+        return None;
+    };
+    let Some((from, rest)) = next_number_of(rest) else {
+        return None;
+    };
+    let Some((len, rest)) = next_number_of(rest) else {
+        return None;
+    };
     let request = Request::Read { pointer, from, len };
     at_end(Entry::Command(Command::Mutator { mutator, request }), rest)
 }
@@ -248,7 +278,9 @@ pub fn close_spelled(rest: Rest<'_>) -> Option<Spelled<'_>>
     ensures value { option_and_then (λ found. entry_spelled found.0) result ≡ entry_from (Numbers 1 asks_close) (words_left rest.entry) }
     ensures lines { IfSome result (λ found. lines_left found.1 ≡ lines_after rest.entry) }
 {
-    let (mutator, rest) = next_number_of(rest)?;
+    let Some((mutator, rest)) = next_number_of(rest) else {
+        return None;
+    };
     let request = Request::Close;
     at_end(Entry::Command(Command::Mutator { mutator, request }), rest)
 }
@@ -257,8 +289,12 @@ fn where_spelled(rest: Rest<'_>) -> Option<Spelled<'_>>
     ensures value { option_and_then (λ found. entry_spelled found.0) result ≡ entry_from (Numbers 2 asks_where) (words_left rest.entry) }
     ensures lines { IfSome result (λ found. lines_left found.1 ≡ lines_after rest.entry) }
 {
-    let (mutator, rest) = next_number_of(rest)?;
-    let (pointer, rest) = next_number_of(rest)?;
+    let Some((mutator, rest)) = next_number_of(rest) else {
+        return None;
+    };
+    let Some((pointer, rest)) = next_number_of(rest) else {
+        return None;
+    };
     let request = Request::Where { pointer };
     at_end(Entry::Command(Command::Mutator { mutator, request }), rest)
 }
@@ -268,8 +304,12 @@ pub fn drop_spelled(rest: Rest<'_>) -> Option<Spelled<'_>>
     ensures value { option_and_then (λ found. entry_spelled found.0) result ≡ entry_from (Numbers 2 asks_drop) (words_left rest.entry) }
     ensures lines { IfSome result (λ found. lines_left found.1 ≡ lines_after rest.entry) }
 {
-    let (mutator, rest) = next_number_of(rest)?;
-    let (pointer, rest) = next_number_of(rest)?;
+    let Some((mutator, rest)) = next_number_of(rest) else {
+        return None;
+    };
+    let Some((pointer, rest)) = next_number_of(rest) else {
+        return None;
+    };
     let request = Request::Drop { pointer };
     at_end(Entry::Command(Command::Mutator { mutator, request }), rest)
 }
@@ -278,8 +318,12 @@ fn try_spelled(rest: Rest<'_>) -> Option<Spelled<'_>>
     ensures value { option_and_then (λ found. entry_spelled found.0) result ≡ entry_from (Numbers 2 asks_try) (words_left rest.entry) }
     ensures lines { IfSome result (λ found. lines_left found.1 ≡ lines_after rest.entry) }
 {
-    let (mutator, rest) = next_number_of(rest)?;
-    let (pointer, rest) = next_number_of(rest)?;
+    let Some((mutator, rest)) = next_number_of(rest) else {
+        return None;
+    };
+    let Some((pointer, rest)) = next_number_of(rest) else {
+        return None;
+    };
     let request = Request::Try { pointer };
     at_end(Entry::Command(Command::Mutator { mutator, request }), rest)
 }
@@ -289,8 +333,12 @@ pub fn view_spelled(rest: Rest<'_>) -> Option<Spelled<'_>>
     ensures value { option_and_then (λ found. entry_spelled found.0) result ≡ entry_from (Numbers 2 asks_view) (words_left rest.entry) }
     ensures lines { IfSome result (λ found. lines_left found.1 ≡ lines_after rest.entry) }
 {
-    let (mutator, rest) = next_number_of(rest)?;
-    let (pointer, rest) = next_number_of(rest)?;
+    let Some((mutator, rest)) = next_number_of(rest) else {
+        return None;
+    };
+    let Some((pointer, rest)) = next_number_of(rest) else {
+        return None;
+    };
     let request = Request::View { pointer };
     at_end(Entry::Command(Command::Mutator { mutator, request }), rest)
 }
@@ -299,7 +347,9 @@ fn epoch_spelled(rest: Rest<'_>) -> Option<Spelled<'_>>
     ensures value { option_and_then (λ found. entry_spelled found.0) result ≡ entry_from (Numbers 1 asks_epoch) (words_left rest.entry) }
     ensures lines { IfSome result (λ found. lines_left found.1 ≡ lines_after rest.entry) }
 {
-    let (mutator, rest) = next_number_of(rest)?;
+    let Some((mutator, rest)) = next_number_of(rest) else {
+        return None;
+    };
     let request = Request::Epoch;
     at_end(Entry::Command(Command::Mutator { mutator, request }), rest)
 }
@@ -308,7 +358,9 @@ fn log_spelled(rest: Rest<'_>) -> Option<Spelled<'_>>
     ensures value { option_and_then (λ found. entry_spelled found.0) result ≡ entry_from (Numbers 1 asks_log) (words_left rest.entry) }
     ensures lines { IfSome result (λ found. lines_left found.1 ≡ lines_after rest.entry) }
 {
-    let (log, rest) = next_number_of(rest)?;
+    let Some((log, rest)) = next_number_of(rest) else {
+        return None;
+    };
     at_end(Entry::Command(Command::Book(Inquiry::Log { log })), rest)
 }
 
@@ -345,8 +397,12 @@ fn policy_selected(policy: Policy, rest: Rest<'_>) -> Option<Spelled<'_>>
     ensures value { option_and_then (λ found. entry_spelled found.0) result ≡ perhaps 1 (asks_select (as_policy policy)) (words_left rest.entry) }
     ensures lines { IfSome result (λ found. lines_left found.1 ≡ lines_after rest.entry) }
 {
-    let (most, rest) = next_number_of(rest)?;
-    let most = byte_of(most)?;
+    let Some((most, rest)) = next_number_of(rest) else {
+        return None;
+    };
+    let Some(most) = byte_of(most) else {
+        return None;
+    };
     let choice = Choice::By(policy);
     let step = Step::Select { choice, most };
     at_end(Entry::Command(Command::Evacuator(step)), rest)
@@ -356,9 +412,15 @@ fn script_selected(rest: Rest<'_>) -> Option<Spelled<'_>>
     ensures value { option_and_then (λ found. entry_spelled found.0) result ≡ asks_script (words_left rest.entry) }
     ensures lines { IfSome result (λ found. lines_left found.1 ≡ lines_after rest.entry) }
 {
-    let (most, rest) = next_number_of(rest)?;
-    let most = byte_of(most)?;
-    let (words, lines) = last_words_of(rest)?;
+    let Some((most, rest)) = next_number_of(rest) else {
+        return None;
+    };
+    let Some(most) = byte_of(most) else {
+        return None;
+    };
+    let Some((words, lines)) = last_words_of(rest) else {
+        return None;
+    };
     let choice = Choice::Script(words);
     let step = Step::Select { choice, most };
     Some((Entry::Command(Command::Evacuator(step)), lines))
@@ -368,20 +430,31 @@ fn select_spelled(rest: Rest<'_>) -> Option<Spelled<'_>>
     ensures value { option_and_then (λ found. entry_spelled found.0) result ≡ word_then select_by (words_left rest.entry) }
     ensures lines { IfSome result (λ found. lines_left found.1 ≡ lines_after rest.entry) }
 {
-    let (word, rest) = next_word_of(rest)?;
+    let Some((word, rest)) = next_word_of(rest) else {
+        return None;
+    };
     if is_name(word, b"script") {
         return script_selected(rest);
     }
-    policy_selected(policy_named(word)?, rest)
+    let Some(policy) = policy_named(word) else {
+        return None;
+    };
+    policy_selected(policy, rest)
 }
 
 fn round_made(policy: Policy, rest: Rest<'_>) -> Option<Spelled<'_>>
     ensures value { option_and_then (λ found. entry_spelled found.0) result ≡ perhaps 2 (asks_round (as_policy policy)) (words_left rest.entry) }
     ensures lines { IfSome result (λ found. lines_left found.1 ≡ lines_after rest.entry) }
 {
-    let (most, rest) = next_number_of(rest)?;
-    let (turns, rest) = next_number_of(rest)?;
-    let most = byte_of(most)?;
+    let Some((most, rest)) = next_number_of(rest) else {
+        return None;
+    };
+    let Some((turns, rest)) = next_number_of(rest) else {
+        return None;
+    };
+    let Some(most) = byte_of(most) else {
+        return None;
+    };
     let step = Step::Round {
         policy,
         most,
@@ -394,15 +467,22 @@ fn round_spelled(rest: Rest<'_>) -> Option<Spelled<'_>>
     ensures value { option_and_then (λ found. entry_spelled found.0) result ≡ word_then round_by (words_left rest.entry) }
     ensures lines { IfSome result (λ found. lines_left found.1 ≡ lines_after rest.entry) }
 {
-    let (word, rest) = next_word_of(rest)?;
-    round_made(policy_named(word)?, rest)
+    let Some((word, rest)) = next_word_of(rest) else {
+        return None;
+    };
+    match policy_named(word) {
+        Some(policy) => round_made(policy, rest),
+        None => None,
+    }
 }
 
 fn mark_spelled(rest: Rest<'_>) -> Option<Spelled<'_>>
     ensures value { option_and_then (λ found. entry_spelled found.0) result ≡ entry_from (Numbers 1 asks_mark) (words_left rest.entry) }
     ensures lines { IfSome result (λ found. lines_left found.1 ≡ lines_after rest.entry) }
 {
-    let (count, rest) = next_number_of(rest)?;
+    let Some((count, rest)) = next_number_of(rest) else {
+        return None;
+    };
     at_end(
         Entry::Command(Command::Evacuator(Step::Mark { count })),
         rest,
@@ -413,7 +493,9 @@ fn evacuate_spelled(rest: Rest<'_>) -> Option<Spelled<'_>>
     ensures value { option_and_then (λ found. entry_spelled found.0) result ≡ entry_from (Numbers 1 asks_evacuate) (words_left rest.entry) }
     ensures lines { IfSome result (λ found. lines_left found.1 ≡ lines_after rest.entry) }
 {
-    let (count, rest) = next_number_of(rest)?;
+    let Some((count, rest)) = next_number_of(rest) else {
+        return None;
+    };
     let step = Step::Evacuate { count };
     at_end(Entry::Command(Command::Evacuator(step)), rest)
 }
@@ -437,7 +519,9 @@ fn flaw_spelled(flaw: Flaw, rest: Rest<'_>) -> Option<Spelled<'_>>
     ensures value { option_and_then (λ found. entry_spelled found.0) result ≡ perhaps 1 (says_device (as_flaw flaw)) (words_left rest.entry) }
     ensures lines { IfSome result (λ found. lines_left found.1 ≡ lines_after rest.entry) }
 {
-    let (call, rest) = next_number_of(rest)?;
+    let Some((call, rest)) = next_number_of(rest) else {
+        return None;
+    };
     at_end(Entry::Device(Device { flaw, call }), rest)
 }
 
@@ -445,8 +529,13 @@ fn device_spelled(rest: Rest<'_>) -> Option<Spelled<'_>>
     ensures value { option_and_then (λ found. entry_spelled found.0) result ≡ word_then device_by (words_left rest.entry) }
     ensures lines { IfSome result (λ found. lines_left found.1 ≡ lines_after rest.entry) }
 {
-    let (word, rest) = next_word_of(rest)?;
-    flaw_spelled(flaw_named(word)?, rest)
+    let Some((word, rest)) = next_word_of(rest) else {
+        return None;
+    };
+    let Some(flaw) = flaw_named(word) else {
+        return None;
+    };
+    flaw_spelled(flaw, rest)
 }
 
 // The step of this name, by the words after it. It stands apart, so that no other line pays for it.

@@ -50,7 +50,10 @@ fn write_record(
     ensures fault { IfErr result (λ _. bytes.new ≡ bytes.old) }
 {
     let start = bytes.len() as u32;
-    if !bytes.add(word)? {
+    let Ok(known) = bytes.add(word) else {
+        return Err(AllocError);
+    };
+    if !known {
         return Ok(None);
     }
     let count = bytes.len() as u32 - start;
@@ -270,8 +273,13 @@ impl Commands {
         ensures value { IfOk result (λ kept. option_map (λ c. self.old ++ c ∷ []) (command_spelled command.entry) ≡ cond kept (Some self.new) None) }
         ensures same { result ≢ Ok true → self.new ≡ self.old }
     {
-        self.records.reserve(1)?;
-        let Some(record) = record_of(&mut self.bytes, command)? else {
+        let Ok(()) = self.records.reserve(1) else {
+            return Err(AllocError);
+        };
+        let Ok(kept) = record_of(&mut self.bytes, command) else {
+            return Err(AllocError);
+        };
+        let Some(record) = kept else {
             return Ok(false);
         };
         self.records.push_reserved(record);
@@ -290,8 +298,13 @@ impl Commands {
         let Command::Mutator { mutator, request } = command else {
             return self.push_rarer(command);
         };
-        self.records.reserve(1)?;
-        let Some(record) = request_record(&mut self.bytes, mutator, request)? else {
+        let Ok(()) = self.records.reserve(1) else {
+            return Err(AllocError);
+        };
+        let Ok(kept) = request_record(&mut self.bytes, mutator, request) else {
+            return Err(AllocError);
+        };
+        let Some(record) = kept else {
             return Ok(false);
         };
         self.records.push_reserved(record);

@@ -1,8 +1,9 @@
 //! A text that is read word by word, each byte once.
 
-ghost use Rattle.std.specs.Prelude.{◌≡◌, ◌≤◌, ◌<◌, ◌+◌, ◌*◌, ◌%◌, ◌^◌, ◌==◌, ◌∷◌, ℕ, [], length, take, drop, true, false, slice_index, IfSome, IfNone};
+ghost use Rattle.std.specs.Prelude.{◌≡◌, ◌≤◌, ◌<◌, ◌+◌, ◌*◌, ◌%◌, ◌^◌, ◌==◌, ◌∷◌, ℕ, [], length, take, drop, true, false, not, slice_index, IfSome, IfNone};
 ghost use Rattle.std.specs.Char.{is_ascii_digit};
 ghost use Rattle.std.specs.Int.{IsInRange};
+ghost use Rattle.std.specs.List.{list_all};
 ghost use Rattle.std.specs.Option.{option_and_then, option_map};
 ghost use Rattle.std.specs.Str.Parse.{digits_value};
 ghost use Rattle.far_text.specs.Grammar.{bytes_in, next_number, last_bytes};
@@ -59,6 +60,27 @@ pub fn word_first(text: &[u8]) -> (&[u8], Rest<'_>)
     (&text[..len], rest_at(text, len).unwrap())
 }
 
+/// What stands behind a name and a space at the front of a text, if it begins so.
+#[inline(always)]
+pub fn after_name<'a>(text: &'a [u8], name: &[u8]) -> Option<&'a [u8]>
+    requires { list_all (λ b. not (is_end b)) name.now ≡ true }
+    ensures words { IfSome result (λ rest. words_in text.now ≡ name.now ∷ words_in rest.now) }
+    ensures lines { IfSome result (λ rest. lines_after_first text.now ≡ lines_after_first rest.now) }
+{
+    let len = name.len();
+    if text.len() <= len || text[len] != b' ' {
+        return None;
+    }
+    let mut at = 0;
+    while at < len {
+        if text[at] != name[at] {
+            return None;
+        }
+        at += 1;
+    }
+    Some(&text[len + 1..])
+}
+
 // The number that the digits in front of a text print, all of them, and what is left after it.
 #[inline(always)]
 fn printed_number(text: &[u8], len: usize, n: u64) -> Option<(u64, Rest<'_>)>
@@ -75,7 +97,9 @@ fn printed_number(text: &[u8], len: usize, n: u64) -> Option<(u64, Rest<'_>)>
     if len > 1 && text[0] == b'0' {
         return None;
     }
-    let rest = rest_at(text, len)?;
+    let Some(rest) = rest_at(text, len) else {
+        return None;
+    };
     Some((n, rest))
 }
 
@@ -172,7 +196,9 @@ pub fn number_first(text: &[u8]) -> Option<(u64, Rest<'_>)>
     if len < 20 {
         return printed_number(text, len, n);
     }
-    let n = long_number(&text[..len])?;
+    let Some(n) = long_number(&text[..len]) else {
+        return None;
+    };
     printed_number(text, len, n)
 }
 

@@ -61,7 +61,9 @@ fn fill(buffer: &mut Vec<u8>, to: usize) -> Result<(), AllocError>
     if to + STEP >= END {
         return Err(AllocError);
     }
-    buffer.reserve(CAPACITY.saturating_sub(buffer.len()))?;
+    let Ok(()) = buffer.reserve(CAPACITY.saturating_sub(buffer.len())) else {
+        return Err(AllocError);
+    };
     buffer.resize(to + STEP, 0)
 }
 
@@ -75,7 +77,7 @@ fn make_room(buffer: &mut Vec<u8>, to: usize) -> Result<(), AllocError>
     ensures fault { IfErr result (λ _. buffer.new.items ≡ buffer.old.items) }
 {
     if to > buffer.len() {
-        fill(buffer, to)?;
+        return fill(buffer, to);
     }
     Ok(())
 }

@@ -41,7 +41,9 @@ fn split_after(
     ensures lines { IfOk result (λ split. split_commands mutators (number + 1) (lines_left lines.entry) ≡ Ok split) }
     ensures fault { IfErr result (λ e. IsFault e (split_commands mutators (number + 1) (lines_left lines.entry))) }
 {
-    let mut split = SplitText::new(alloc)?;
+    let Ok(mut split) = SplitText::new(alloc) else {
+        return Err(ParseError::Memory);
+    };
     let mut number = number;
     let mut lines = lines;
     while let Some(text) = lines {
@@ -53,7 +55,10 @@ fn split_after(
             let Entry::Command(command) = entry else {
                 return Err(ParseError::Syntax(number));
             };
-            if !split.push(mutators, number as u32, command)? {
+            let Ok(kept) = split.push(mutators, number as u32, command) else {
+                return Err(ParseError::Memory);
+            };
+            if !kept {
                 return Err(ParseError::Syntax(number));
             }
         }

@@ -60,10 +60,11 @@ impl SplitText {
     pub(crate) fn new(alloc: Global) -> Result<SplitText, AllocError>
         ensures { IfOk result (λ text. text ≡ []) }
     {
-        Ok(SplitText {
-            commands: Commands::new(alloc)?,
-            numbers: Vec::new(alloc),
-        })
+        let Ok(commands) = Commands::new(alloc) else {
+            return Err(AllocError);
+        };
+        let numbers = Vec::new(alloc);
+        Ok(SplitText { commands, numbers })
     }
 
     /// How many they are.
@@ -97,7 +98,9 @@ impl SplitText {
         if !has_thread(mutators, command) {
             return Ok(false);
         }
-        self.numbers.push(number)?;
+        let Ok(()) = self.numbers.push(number) else {
+            return Err(AllocError);
+        };
         match self.commands.push(command) {
             Ok(true) => Ok(true),
             other => {
@@ -115,7 +118,9 @@ impl SplitText {
         for place in 0..self.len() {
             let (_, command) = self.at(place);
             if thread.runs(command) {
-                places.push(place as u32)?;
+                let Ok(()) = places.push(place as u32) else {
+                    return Err(AllocError);
+                };
             }
         }
         Ok(Lines { text: self, places })

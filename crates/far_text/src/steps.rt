@@ -49,7 +49,9 @@ fn add_each_log(bytes: &mut HexBytes, words: &[u8]) -> Result<bool, AllocError>
         if log >= LOG_NAMES || bytes.len() == most {
             return Ok(false);
         }
-        bytes.push(log as u8)?;
+        let Ok(()) = bytes.push(log as u8) else {
+            return Err(AllocError);
+        };
         rest = after;
     }
     Ok(true)
@@ -85,7 +87,10 @@ fn script_record(
     ensures fault { IfErr result (λ _. bytes.new ≡ bytes.old) }
 {
     let start = bytes.len() as u32;
-    if !add_logs(bytes, words)? {
+    let Ok(known) = add_logs(bytes, words) else {
+        return Err(AllocError);
+    };
+    if !known {
         return Ok(None);
     }
     let count = bytes.len() as u32 - start;

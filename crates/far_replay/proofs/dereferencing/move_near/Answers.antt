@@ -19,7 +19,7 @@ pub move_now-requires-clause-quiet : goal.move_now-requires-clause-quiet
 move_now-requires-clause-quiet c =
     let s : State = state_in c.args.evac.now in
     let law = c.args.evac.now.book.near.core.law in
-    subst (λ (x : State). IsQuietNear x c.args.pointer) (sym (c.owner.ensures.legal refl (may_ask s c.args.owner c.args.pointer law c.requires.opened c.requires.own c.requires.used c.requires.unheld c.requires.near)).0)
+    subst (λ (x : State). IsQuietNear x c.args.pointer) (sym (c.make_event.ensures.legal refl (may_ask s c.args.owner c.args.pointer law c.requires.opened c.requires.own c.requires.used c.requires.unheld c.requires.near)).0)
     (asked_quiet s c.args.owner c.args.pointer law c.requires.opened c.requires.own c.requires.used c.requires.unheld c.requires.near)
 
 pub returns-in-Ok-Some-clause-brought : goal.returns-in-Ok-Some-clause-brought
@@ -28,29 +28,29 @@ returns-in-Ok-Some-clause-brought c =
     let m = c.args.owner in
     let p = c.args.pointer in
     let law = c.args.evac.now.book.near.core.law in
-    let asked = (c.owner.ensures.legal refl (may_ask s m p law c.requires.opened c.requires.own c.requires.used c.requires.unheld c.requires.near)).0 in
-    let done = near_done s m p law c.requires.opened c.requires.own c.requires.used c.requires.unheld c.requires.near _ (state_in c.owner.new.self) (state_in c.move_now.new.self) c.in-Ok-Some.field-0 c.in-Ok-Some.field-0-0 c.in-Ok-Some.field-0-is
+    let asked = (c.make_event.ensures.legal refl (may_ask s m p law c.requires.opened c.requires.own c.requires.used c.requires.unheld c.requires.near)).0 in
+    let done = near_done s m p law c.requires.opened c.requires.own c.requires.used c.requires.unheld c.requires.near _ (state_in c.make_event.new.evac) (state_in c.move_now.new.self) c.in-Ok-Some.field-0 c.in-Ok-Some.field-0-0 c.in-Ok-Some.field-0-is
     asked c.in-Ok-Some.ensures.moved.place (c.in-Ok-Some.ensures.moved.exact tt) in
-    let room = near_room s m p law c.requires.opened c.requires.own c.requires.used c.requires.unheld c.requires.near (state_in c.owner.new.self) c.in-Ok-Some.field-0 c.in-Ok-Some.field-0-0 c.in-Ok-Some.field-0-is
+    let room = near_room s m p law c.requires.opened c.requires.own c.requires.used c.requires.unheld c.requires.near (state_in c.make_event.new.evac) c.in-Ok-Some.field-0 c.in-Ok-Some.field-0-0 c.in-Ok-Some.field-0-is
     asked c.in-Ok-Some.ensures.moved.place in
-    let order = near_order s m p law c.requires.opened c.requires.own c.requires.used c.requires.unheld c.requires.near (state_in c.owner.new.self) c.owner.new.self.book.order c.move_now.new.self.book.order
+    let order = near_order s m p law c.requires.opened c.requires.own c.requires.used c.requires.unheld c.requires.near (state_in c.make_event.new.evac) c.make_event.new.evac.book.order c.move_now.new.self.book.order
     c.in-Ok-Some.field-0 c.in-Ok-Some.field-0-0 c.in-Ok-Some.field-0-is asked c.in-Ok-Some.ensures.moved.place c.in-Ok-Some.ensures.moved.order
-    ∙ ap (λ order. order_come (asked_for s m p) order p) c.owner.ensures.order in
-    let device : c.move_now.new.self.book.device ≡ c.owner.new.self.book.device =
-    subst (λ x. IfSome x (λ _. c.move_now.new.self.book.device ≡ c.owner.new.self.book.device)) c.in-Ok-Some.field-0-is c.in-Ok-Some.ensures.moved.device in
+    ∙ ap (λ order. order_come (asked_for s m p) order p) c.make_event.ensures.order in
+    let device : c.move_now.new.self.book.device ≡ c.make_event.new.evac.book.device =
+    subst (λ x. IfSome x (λ _. c.move_now.new.self.book.device ≡ c.make_event.new.evac.book.device)) c.in-Ok-Some.field-0-is c.in-Ok-Some.ensures.moved.device in
     record {
       comes = (
         Serves,
         comes_itself c.args.evac.now c.move_now.new.self m p c.in-Ok-Some.field-0-0 done room order
             (ap (λ (t : State). t.stored) done ∙ comes_stores s m p law c.requires.opened c.requires.own c.requires.used c.requires.unheld c.in-Ok-Some.field-0-0 room)
-            (spent_same c.args.evac.now c.move_now.new.self (device ∙ c.owner.ensures.device))
+            (spent_same c.args.evac.now c.move_now.new.self (device ∙ c.make_event.ensures.device))
             (λ far. absurd (true≢false (sym c.requires.near ∙ far))),
       );
       refused = tt;
       shut = tt;
       round = search rules;
       spent = tt;
-      same = same_holds c.args.evac.now c.move_now.new.self (device ∙ c.owner.ensures.device);
+      same = same_holds c.args.evac.now c.move_now.new.self (device ∙ c.make_event.ensures.device);
     }
 
 pub returns-in-Err-clause-brought : goal.returns-in-Err-clause-brought
@@ -59,14 +59,14 @@ returns-in-Err-clause-brought c =
     let law = c.args.evac.now.book.near.core.law in
     record {
       comes = tt;
-      refused = near_refused s c.args.owner c.args.pointer law c.requires.opened c.requires.own c.requires.used c.requires.unheld c.requires.near (state_in c.owner.new.self) (state_in c.move_now.new.self) c.in-Err.why
-          (c.owner.ensures.legal refl (may_ask s c.args.owner c.args.pointer law c.requires.opened c.requires.own c.requires.used c.requires.unheld c.requires.near)).0
+      refused = near_refused s c.args.owner c.args.pointer law c.requires.opened c.requires.own c.requires.used c.requires.unheld c.requires.near (state_in c.make_event.new.evac) (state_in c.move_now.new.self) c.in-Err.why
+          (c.make_event.ensures.legal refl (may_ask s c.args.owner c.args.pointer law c.requires.opened c.requires.own c.requires.used c.requires.unheld c.requires.near)).0
           c.in-Err.ensures.moved.refused c.in-Err.ensures.moved.none (c.in-Err.ensures.moved.unchanged tt);
       shut = search rules;
       round = search rules;
       spent = subst (λ w. SpentBy (refuser w) c.args.evac.now c.move_now.new.self) (sym c.in-Err.ensures.moved.refused)
-          (spent_same c.args.evac.now c.move_now.new.self (ap (λ b. b.device) c.in-Err.ensures.moved.kept ∙ c.owner.ensures.device));
-      same = same_holds c.args.evac.now c.move_now.new.self (ap (λ b. b.device) c.in-Err.ensures.moved.kept ∙ c.owner.ensures.device);
+          (spent_same c.args.evac.now c.move_now.new.self (ap (λ b. b.device) c.in-Err.ensures.moved.kept ∙ c.make_event.ensures.device));
+      same = same_holds c.args.evac.now c.move_now.new.self (ap (λ b. b.device) c.in-Err.ensures.moved.kept ∙ c.make_event.ensures.device);
     }
 
 pub returns-in-Err-clause-far : goal.returns-in-Err-clause-far

@@ -31,7 +31,7 @@ retire-requires-clause-dropped c =
     let own = c.in-Some.ensures.own in
     let ours : uses s c.args.owner p ≡ true = ap (uses s c.args.owner) own.0 ∙ uses_own s c.args.owner c.args.pointer own.1 own.2 in
     let unheld : s.held p ≡ None = unheld_is (s.held p) (sym (ap (λ (x : Core). is_some ((core_state x).held p)) c.core_of.ensures) ∙ sym c.is_held.ensures ∙ c.if-is_held.false) in
-    let asked = (c.owner.ensures.legal refl (ask_fact s c.args.owner p c.requires.law c.requires.known ours unheld)).0 in
+    let asked = (c.make_event.ensures.legal refl (ask_fact s c.args.owner p c.requires.law c.requires.known ours unheld)).0 in
     ap (λ (t : State). is_dropped (read_of (t.cell p))) asked ∙ asked_is_dropped s c.args.owner p c.requires.law c.requires.known ours unheld
 
 pub returns-clause-state : goal.returns-clause-state
@@ -41,22 +41,22 @@ returns-clause-state c =
     let own = c.in-Some.ensures.own in
     let ours : uses s c.args.owner p ≡ true = ap (uses s c.args.owner) own.0 ∙ uses_own s c.args.owner c.args.pointer own.1 own.2 in
     let unheld : s.held p ≡ None = unheld_is (s.held p) (sym (ap (λ (x : Core). is_some ((core_state x).held p)) c.core_of.ensures) ∙ sym c.is_held.ensures ∙ c.if-is_held.false) in
-    let asked = (c.owner.ensures.legal refl (ask_fact s c.args.owner p c.requires.law c.requires.known ours unheld)).0 in
+    let asked = (c.make_event.ensures.legal refl (ask_fact s c.args.owner p c.requires.law c.requires.known ours unheld)).0 in
     dropped_by_events (moment_in c.args.evac.now) (state_in c.retire.new.self) c.args.owner p c.requires.law c.requires.known ours unheld (c.retire.ensures.retired.exact tt ∙ ap (λ (t : State). retired t p) asked)
     ∙ ap (λ q. after_events s (events_for (moment_in c.args.evac.now) (Mutator c.args.owner (Drop q)))) own.0
 
 pub returns-clause-spent : goal.returns-clause-spent
 returns-clause-spent c =
-    spent_first Serves c.args.evac.now c.owner.new.self c.retire.new.self (spent_same c.args.evac.now c.owner.new.self c.owner.ensures.device)
-    (spent_none c.owner.new.self c.retire.new.self (go_no_more c.owner.new.self.book.device c.retire.new.self.book.device c.in-Some.pointer c.retire.ensures.retired.called))
+    spent_first Serves c.args.evac.now c.make_event.new.evac c.retire.new.self (spent_same c.args.evac.now c.make_event.new.evac c.make_event.ensures.device)
+    (spent_none c.make_event.new.evac c.retire.new.self (go_no_more c.make_event.new.evac.book.device c.retire.new.self.book.device c.in-Some.pointer c.retire.ensures.retired.called))
 
 pub returns-clause-holds : goal.returns-clause-holds
 returns-clause-holds c q len kept =
-    let t : State = state_in c.owner.new.self in
+    let t : State = state_in c.make_event.new.evac in
     let p : ℕ = c.in-Some.pointer in
     let free : state_in c.retire.new.self ≡ with_free_cell t p = c.retire.ensures.retired.exact tt ∙ retired_is t p (retire-requires-clause-dropped c.before) in
     elim (cases_eq q p) [
       | inl at ↦ (let none : kept_len (read_of ((state_in c.retire.new.self).cell q)) ≡ None = ap (λ (s : State). kept_len (read_of (s.cell q))) free ∙ ap (λ w. kept_len (read_of w)) (put_same t.cell p 0 q at) ∙ ap kept_len unused in
           let odd : None ≡ Some len = sym none ∙ kept in absurd cc)
-      | inr away ↦ c.retire.ensures.retired.called.0.0.1 q away ∙ ap (λ (d : FarSide). far_of d q) c.owner.ensures.device
+      | inr away ↦ c.retire.ensures.retired.called.0.0.1 q away ∙ ap (λ (d : FarSide). far_of d q) c.make_event.ensures.device
     ]

@@ -20,9 +20,9 @@ returns-in-Ok c = record {
       let call = c.in-Ok.ensures in
       let law = c.keeps_law.ensures in
       let exact = call.exact tt in
-      step_served old new (Evacuate c.args.count) (evacuated_holds old new old.book.near.core.law law.moment (law.exact tt) call.evacuating c.args.count _ call.asked) (Evacuated c.in-Ok.progress)
+      step_served old new (Evacuate c.args.count) (evacuated_holds old new old.book.near.core.law law.moment law.exact call.evacuating c.args.count _ call.asked) (Evacuated c.in-Ok.progress)
       (allowed_served (moment_in old) (moment_in new) (Evacuator (Evacuate c.args.count)) (Evacuated c.in-Ok.progress) (evacuate_allowed (moment_in old) c.args.count call.evacuating) exact.0 (ap Evacuated exact.1))
-      (evacuated_spends old new (moment_in old) (law.exact tt) c.args.count (moment_in new) _ call.asked);
+      (evacuated_spends old new (moment_in old) law.exact c.args.count (moment_in new) _ call.asked);
 }
 
 pub returns-in-Err : goal.returns-in-Err
@@ -34,10 +34,10 @@ returns-in-Err c = record {
       let next : Moment = moment_in new in
       let call = c.in-Err.ensures in
       let law = c.keeps_law.ensures in
-      step_refused old new (Evacuate c.args.count) (halted_holds old new old.book.near.core.law law.moment (law.exact tt) c.args.count c.in-Err.fault call.barred call.refused)
+      step_refused old new (Evacuate c.args.count) (halted_holds old new old.book.near.core.law law.moment law.exact c.args.count c.in-Err.fault call.barred call.refused)
       (told_by c.refused_step.new.scratch c.refused_step.result) c.in-Err.fault c.refused_step.ensures.halted c.refused_step.ensures.refused
-      (halted_spends old new now (law.exact tt) c.args.count next c.in-Err.fault call.barred call.why call.refused)
-      (evacuate_stops now next c.args.count c.in-Err.fault (λ other. (call.barred other).0) (λ phase. (call.stops phase).alone (law.exact tt))
-      (λ phase. to_write FarSide FarWrites FarLetsGo _ _ _ _ _ _ ((call.refused phase).alone (law.exact tt))) (call.stops_exact tt))
+      (halted_spends old new now law.exact c.args.count next c.in-Err.fault call.barred call.why call.refused)
+      (evacuate_stops now next c.args.count c.in-Err.fault (λ other. (call.barred other).0) (λ phase. (call.stops phase).alone law.exact)
+      (λ phase. to_write FarSide FarWrites FarLetsGo _ _ _ _ _ _ ((call.refused phase).alone law.exact)) (call.stops_exact tt))
       (evacuate_barred now next c.args.count c.in-Err.fault.why (λ other. ((call.barred other).0, ap (λ (x : EvacOf Plain FarSide). moment_in x) (call.barred other).2)) call.why);
 }

@@ -31,7 +31,7 @@ returns-in-Oldest-clause-stopped c =
     round_breaks (moment_in c.args.evac.now) (moment_in c.run_round_alone.new.self) (as_policy c.args.policy) c.args.most c.args.turns _
     (oldest_chosen (moment_in c.args.evac.now) c.args.evac.now.book.near.core.law c.keeps_law.ensures.moment (as_policy c.args.policy) c.from-most.result c.args.most (ap as_policy c.in-Oldest.is) c.from-most.ensures) _
     (λ logs fault asked. let (tallies, u, between, tally, made, asking, fewer, phase, stops, refuses, sum, lawful, keys) = asked in
-    let single = turns_alone (after_selecting (moment_in c.args.evac.now) logs) (begun_alone (moment_in c.args.evac.now) logs (c.keeps_law.ensures.exact tt)) tallies false u made in
+    let single = turns_alone (after_selecting (moment_in c.args.evac.now) logs) (begun_alone (moment_in c.args.evac.now) logs c.keeps_law.ensures.exact) tallies false u made in
     (u, turn_size, tally, stops.alone single, to_write FarSide FarWrites FarLetsGo _ _ _ _ _ _ (refuses.alone single))) _
     (λ fault first. never_first fault first.2) c.run_round_alone.result (λ why bars. (c.run_round_alone.ensures.barred why bars).0) c.run_round_alone.ensures.refused
 
@@ -41,26 +41,26 @@ returns-in-LeastLive-clause-stopped c =
     round_breaks (moment_in c.args.evac.now) (moment_in ran.new.self) (as_policy c.args.policy) c.args.most c.args.turns _
     (least_chosen (moment_in c.args.evac.now) c.args.evac.now.book.near.core.law c.keeps_law.ensures.moment (as_policy c.args.policy) c.from-most.result c.args.most (ap as_policy c.in-LeastLive.is) c.from-most.ensures) _
     (λ logs fault asked. let (tallies, u, between, tally, made, asking, fewer, phase, stops, refuses, sum, lawful, keys) = asked in
-    let single = turns_alone (after_selecting (moment_in c.args.evac.now) logs) (begun_alone (moment_in c.args.evac.now) logs (c.keeps_law.ensures.exact tt)) tallies false u made in
+    let single = turns_alone (after_selecting (moment_in c.args.evac.now) logs) (begun_alone (moment_in c.args.evac.now) logs c.keeps_law.ensures.exact) tallies false u made in
     (u, turn_size, tally, stops.alone single, to_write FarSide FarWrites FarLetsGo _ _ _ _ _ _ (refuses.alone single))) _
     (λ fault first. never_first fault first.2) ran.result (λ why bars. (ran.ensures.barred why bars).0) ran.ensures.refused
 
 pub returns-in-Oldest-clause-spent : goal.returns-in-Oldest-clause-spent
 returns-in-Oldest-clause-spent c =
     let ran = c.run_round_alone in
-    round_spends c.args.evac.now ran.new.self (moment_in c.args.evac.now) (c.keeps_law.ensures.exact tt) (moment_in ran.new.self) c.args.turns _ _ _ _ _ _ _ ran.result ran.ensures.asked ran.ensures.barred ran.ensures.refused
+    round_spends c.args.evac.now ran.new.self (moment_in c.args.evac.now) c.keeps_law.ensures.exact (moment_in ran.new.self) c.args.turns _ _ _ _ _ _ _ ran.result ran.ensures.asked ran.ensures.barred ran.ensures.refused
 
 pub returns-in-LeastLive-clause-spent : goal.returns-in-LeastLive-clause-spent
 returns-in-LeastLive-clause-spent c =
     let ran = c.run_round_alone-in-LeastLive in
-    round_spends c.args.evac.now ran.new.self (moment_in c.args.evac.now) (c.keeps_law.ensures.exact tt) (moment_in ran.new.self) c.args.turns _ _ _ _ _ _ _ ran.result ran.ensures.asked ran.ensures.barred ran.ensures.refused
+    round_spends c.args.evac.now ran.new.self (moment_in c.args.evac.now) c.keeps_law.ensures.exact (moment_in ran.new.self) c.args.turns _ _ _ _ _ _ _ ran.result ran.ensures.asked ran.ensures.barred ran.ensures.refused
 
 pub returns-in-Oldest-clause-holds : goal.returns-in-Oldest-clause-holds
 returns-in-Oldest-clause-holds c =
     let ran = c.run_round_alone in
-    round_keeps c.args.evac.now ran.new.self c.args.evac.now.book.near.core.law (c.keeps_law.ensures.exact tt) c.args.turns _ _ _ _ _ _ _ ran.result ran.ensures.asked ran.ensures.barred ran.ensures.refused
+    round_keeps c.args.evac.now ran.new.self c.args.evac.now.book.near.core.law c.keeps_law.ensures.exact c.args.turns _ _ _ _ _ _ _ ran.result ran.ensures.asked ran.ensures.barred ran.ensures.refused
 
 pub returns-in-LeastLive-clause-holds : goal.returns-in-LeastLive-clause-holds
 returns-in-LeastLive-clause-holds c =
     let ran = c.run_round_alone-in-LeastLive in
-    round_keeps c.args.evac.now ran.new.self c.args.evac.now.book.near.core.law (c.keeps_law.ensures.exact tt) c.args.turns _ _ _ _ _ _ _ ran.result ran.ensures.asked ran.ensures.barred ran.ensures.refused
+    round_keeps c.args.evac.now ran.new.self c.args.evac.now.book.near.core.law c.keeps_law.ensures.exact c.args.turns _ _ _ _ _ _ _ ran.result ran.ensures.asked ran.ensures.barred ran.ensures.refused

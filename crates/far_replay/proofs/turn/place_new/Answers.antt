@@ -27,5 +27,5 @@ returns-clause-refusal c =
 
 pub returns-clause-made : goal.returns-clause-made
 returns-clause-made c =
-    object_made (state_in c.args.evac.now) _ (state_in c.owner.new.self) c.owner.result c.args.owner c.in-Some.pointer c.args.len c.args.ds c.in-Ok.field-0 c.args.evac.now.book.near.core.law c.requires.known c.in-Some.ensures
-    (omega arith) (omega arith) (omega arith) c.in-Ok.ensures.placed.room (c.in-Ok.ensures.placed.exact tt) (c.owner.ensures.made refl)
+    object_made (state_in c.args.evac.now) _ (state_in c.make_event.new.evac) c.make_event.result c.args.owner c.in-Some.pointer c.args.len c.args.ds c.in-Ok.field-0 c.args.evac.now.book.near.core.law c.requires.known c.in-Some.ensures
+    (omega arith) (omega arith) (omega arith) c.in-Ok.ensures.placed.room (c.in-Ok.ensures.placed.exact tt) (c.make_event.ensures.made refl)
