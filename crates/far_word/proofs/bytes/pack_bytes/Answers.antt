@@ -22,6 +22,18 @@ loop-i-preserved c =
 pub read_u64-requires : goal.read_u64-requires
 read_u64-requires c = omega (arith, length-rest c.args.bytes.now (8 * c.loop-i.i))
 
+pub bounds-words-i : goal.bounds-words-i
+bounds-words-i c = omega arith
+
+pub last_word-requires-clause-some : goal.last_word-requires-clause-some
+last_word-requires-clause-some c = omega arith
+
+pub last_word-requires-clause-few : goal.last_word-requires-clause-few
+last_word-requires-clause-few c = omega arith
+
+pub bounds-words-whole : goal.bounds-words-whole
+bounds-words-whole c = omega arith
+
 pub returns-then-whole-words : goal.returns-then-whole-words
 unfolding words_of
 returns-then-whole-words c =
