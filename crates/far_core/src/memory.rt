@@ -23,7 +23,7 @@ use crate::memory::stored_rows::StoredRows;
 use far_word::Place;
 
 /// The words and views. All its memory is taken when it is made.
-#[derive(Debug, Drop)]
+#[derive(Drop)]
 pub(crate) struct Memory {
     pub(crate) honest: bool,
     // The shared words.

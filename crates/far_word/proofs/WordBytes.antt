@@ -75,6 +75,10 @@ length-rest bs a = length-take-le (length bs - a) (drop a bs) (omega (arith, len
 rest-get : (bs : List ℕ) (a k : ℕ) → k < length bs - a → get_or (take (length bs - a) (drop a bs)) k 0 ≡ get_or bs (a + k) 0
 rest-get bs a k lt = get_or-take (length bs - a) (drop a bs) k 0 lt ∙ get_or-drop a bs k 0
 
+-- the eight bytes from there on, read as a number
+pub read_whole : (bs : List ℕ) (i : ℕ) → 8 * i + 8 ≤ length bs → little_number 8 (take (length bs - 8 * i) (drop (8 * i) bs)) ≡ packed_word bs i
+read_whole bs i fits = read_word bs (take (length bs - 8 * i) (drop (8 * i) bs)) i (λ k lt. rest-get bs (8 * i) k (omega arith))
+
 put_end : (bs ys : List ℕ) (a : ℕ) → put_mid a (length bs - a) bs ys ≡ take a bs ++ ys
 put_end bs ys a = ap (λ z. take a bs ++ (ys ++ z)) (drop_all (length bs - a) (drop a bs) (omega (arith, length-drop a bs))) ∙ ap (λ z. take a bs ++ z) (append-nil ys)
 

@@ -14,7 +14,7 @@ use far_word::{JOBS, LOG_WORDS, MOST_COPIERS};
 const COPIED: usize = LOG_WORDS as usize * MOST_COPIERS as usize;
 
 /// The words of the jobs, what the book knows of them, and what each copier knows.
-#[derive(Debug, Drop)]
+#[derive(Drop)]
 pub(crate) struct Jobs {
     pub(crate) words: [u64; JOBS as usize],
     // The epoch of the round in which each was offered, and whether its pointer was named to its target.

@@ -10,7 +10,7 @@ use far_word::LOG_WORDS;
 use std::alloc::{AllocError, Global};
 
 /// The words of one pointer: the first of them, and for how many there is room.
-#[derive(Clone, Copy, Debug)]
+#[derive(Clone, Copy)]
 pub(crate) struct Row {
     pub(crate) start: u32,
     pub(crate) room: u16,
@@ -19,7 +19,7 @@ pub(crate) struct Row {
 /// A row of words for each pointer that ever went far, as long as its object was, or longer. One that has no room for an object
 /// is left for another of at least twice its room, so all rows of a pointer have at most two logs' words. The room for that is
 /// taken when this is made, and nothing is written to it.
-#[derive(Debug, Drop)]
+#[derive(Drop)]
 pub(crate) struct StoredRows {
     // Each pointer's row.
     pub(crate) row_of: Vec<Row>,

@@ -38,3 +38,27 @@ returns c =
       written = row_emptied jobs.written _ c.fill-2.new.self jobs.touched c.args.copier k false c.deref_mut-2.ensures.value (c.fill-2.ensures.after (λ y e. e)) size few
           (omega (arith, c.requires.written, jobs.written.ok.0)) inside jobs.written_behind i;
     }
+
+pub invariant_of-self-clause-read_within : goal.invariant_of-self-clause-read_within
+invariant_of-self-clause-read_within c = c.args.self.now.read_within
+
+pub invariant_of-self-clause-read_room : goal.invariant_of-self-clause-read_room
+invariant_of-self-clause-read_room c = c.args.self.now.read_room
+
+pub invariant_of-self-clause-written_within : goal.invariant_of-self-clause-written_within
+invariant_of-self-clause-written_within c = c.args.self.now.written_within
+
+pub invariant_of-self-clause-written_room : goal.invariant_of-self-clause-written_room
+invariant_of-self-clause-written_room c = c.args.self.now.written_room
+
+pub slice_bounds-fill-count : goal.slice_bounds-fill-count
+slice_bounds-fill-count c = omega arith
+
+pub slice_bounds-fill-end : goal.slice_bounds-fill-end
+slice_bounds-fill-end c = omega (arith, c.touched_by.ensures, c.args.self.now.touched_within c.args.copier, c.requires.read, c.deref_mut.ensures.len)
+
+pub slice_bounds-fill-count-2 : goal.slice_bounds-fill-count-2
+slice_bounds-fill-count-2 c = omega arith
+
+pub slice_bounds-fill-end-2 : goal.slice_bounds-fill-end-2
+slice_bounds-fill-end-2 c = omega (arith, c.touched_by.ensures, c.args.self.now.touched_within c.args.copier, c.requires.written, c.deref_mut-2.ensures.len)
