@@ -1,6 +1,6 @@
 use Rattle.std.proofs.Common.{sym, arith}
 use Rattle.far_policy.proofs.Choices.{no_rows, seen_more, room_behind, seen_logs}
-use Rattle.tests_far_policy.proofs.own.are_rows.Goals as goal
+use Rattle.tests_below.proofs.tests.policy.own.are_rows.Goals as goal
 
 pub loop-row-init : goal.loop-row-init
 loop-row-init c = (no_rows, c.new-seen.ensures)

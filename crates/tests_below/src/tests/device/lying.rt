@@ -6,7 +6,7 @@ ghost use Rattle.far_device.specs.Faults.{is_fault};
 ghost use Rattle.far_device.specs.Following.{Follows, any_key};
 ghost use Rattle.far_device.specs.declared.fault.DeviceFault.{DeviceFault};
 
-use crate::{Device, DeviceFault, hand_over};
+use far_device::{Device, DeviceFault, hand_over};
 
 /// Gives one byte less than is held, and forgets nothing.
 #[derive(Drop)]

@@ -1,21 +1,14 @@
-//! The tests of far_word, by its public calls alone. They stand apart, so that it is proved once: that the clauses say what
-//! was meant, by worked values, and that values compare as they should.
-#![tactic(auto)]
+//! Of far_word: that the clauses say what was meant, by worked values, and that values compare as they should.
 
-#[cfg(test)]
 mod example;
-#[cfg(test)]
 mod values;
-#[cfg(test)]
 mod words;
 
-#[cfg(test)]
 use far_word::{
     Marks, header_is, header_words, job_words, packed_bytes, pointer_marks, pointer_words,
     refusal_numbers, scope_words, sizes_are, words_are,
 };
 
-#[cfg(test)]
 const NO_MARKS: Marks = Marks {
     hot: false,
     evac: false,
@@ -24,7 +17,6 @@ const NO_MARKS: Marks = Marks {
     dirty: false,
 };
 
-#[cfg(test)]
 const HOT: Marks = Marks {
     hot: true,
     evac: false,
@@ -33,7 +25,6 @@ const HOT: Marks = Marks {
     dirty: false,
 };
 
-#[cfg(test)]
 const DIRTY: Marks = Marks {
     hot: false,
     evac: false,
@@ -42,7 +33,6 @@ const DIRTY: Marks = Marks {
     dirty: true,
 };
 
-#[cfg(test)]
 const HOT_EVAC: Marks = Marks {
     hot: true,
     evac: true,

@@ -1,4 +1,4 @@
-//! Whether the clauses say what was meant, by worked images of logs: each header is written out by its layout.
+//! Of far_log: whether the clauses say what was meant, by worked images of logs: each header is written out by its layout.
 
 use far_log::{
     BadWord, LogRow, Span, WalkFault, bad_words_are_first, convert, images_are_converted,

@@ -5,7 +5,7 @@ ghost use Rattle.std.proofs.Common.{rules};
 ghost use Rattle.far_device.specs.declared.fault.DeviceFault.TheVariants as fault;
 ghost use Rattle.far_device.specs.Wrapping.{wrapped_below};
 
-use crate::{Device, DeviceFault};
+use far_device::{Device, DeviceFault};
 
 /// Each call fails.
 #[derive(Drop)]

@@ -4,7 +4,7 @@ ghost use Rattle.std.specs.Prelude.{◌≡◌, true, false, None, Ok, IfOk, OnOk
 ghost use Rattle.far_device.specs.Faults.{is_fault};
 ghost use Rattle.far_device.specs.Following.{Follows, other_than};
 
-use crate::{Device, DeviceFault};
+use far_device::{Device, DeviceFault};
 
 /// Bytes go to the far side, come back, and are let go of.
 pub(crate) fn there_and_back<D: Device>(

@@ -1,6 +1,6 @@
 use Rattle.std.proofs.Common.{◌-◌, length, arith}
 use Rattle.far_policy.proofs.Choices.{none_chosen, one_chosen}
-use Rattle.tests_far_policy.proofs.own.YoungestPolicy.choose.Goals as goal
+use Rattle.tests_below.proofs.tests.policy.own.YoungestPolicy.choose.Goals as goal
 
 pub returns-then-self-eq0-clause-chosen : goal.returns-then-self-eq0-clause-chosen
 returns-then-self-eq0-clause-chosen c = rw c.requires.empty (none_chosen c.args.rows.now c.args.most)

@@ -1,6 +1,6 @@
-//! No wake-up is lost. Where one is, a test never ends, and is refused for that.
+//! Of far_signs: no wake-up is lost. Where one is, a test never ends, and is refused for that.
 
-use crate::{EVERY, Found, Signs, Waiter};
+use far_signs::{EVERY, Found, Signs, Waiter};
 use std::sync::Wait;
 use std::sync::atomic::{AtomicBool, Ordering};
 use std::thread;
