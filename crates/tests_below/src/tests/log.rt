@@ -16,6 +16,13 @@ const FIRST: Span = Span {
     ds: 1,
 };
 
+const NINE: Span = Span {
+    at: 0,
+    p: 5,
+    len: 9,
+    ds: 2,
+};
+
 const ROW: LogRow = LogRow {
     log: 1,
     live: 16,
@@ -72,8 +79,8 @@ fn takes(len: u16, words: usize) -> bool {
 
 #[test]
 fn sizes(rt: HostRuntime) {
-    assert!(rt; takes(0, 1) && takes(1, 2) && takes(8, 2) && takes(9, 3));
-    assert!(rt; takes(4088, 512) && takes(4089, 513) && takes(u16::MAX, 8193));
+    let few = takes(0, 1) && takes(1, 2) && takes(8, 2) && takes(9, 3);
+    assert!(rt; few && takes(4088, 512) && takes(4089, 513) && takes(u16::MAX, 8193));
 }
 
 #[test]
@@ -97,23 +104,28 @@ fn readme(rt: HostRuntime) -> Result<(), Fail> {
     Ok(())
 }
 
+fn walk_to(alloc: Global, rows: &[(&[u64], usize, &[Span])]) -> bool {
+    for (words, tail, wanted) in rows {
+        if !walks_to(alloc, words, *tail, wanted) {
+            return false;
+        }
+    }
+    true
+}
+
 #[test]
 fn spans(rt: HostRuntime) {
-    let alloc = rt.alloc();
-    let second = Span { at: 3, ..FIRST };
-    let nine = Span {
-        at: 0,
-        p: 5,
-        len: 9,
-        ds: 2,
-    };
-    assert!(rt; walks_to(alloc, &[0xa100_0000_0001_0008, 0], 2, &[FIRST]));
-    assert!(rt; walks_to(alloc, &[0xa100_0000_0001_0008, 0], 0, &[]));
-    assert!(rt; walks_to(alloc, &[], 0, &[]));
-    assert!(rt; walks_to(alloc, &[0xa200_0000_0100_0008, 0], 2, &[FIRST]));
-    assert!(rt; walks_to(alloc, &TWO, 5, &[nine, second]));
-    assert!(rt; walks_to(alloc, &TWO, 3, &[nine]));
-    assert!(rt; walks_to(alloc, &TWO_V1, 5, &[nine, second]));
+    let both = [NINE, Span { at: 3, ..FIRST }];
+    let rows: [(&[u64], usize, &[Span]); 7] = [
+        (&[0xa100_0000_0001_0008, 0], 2, &[FIRST]),
+        (&[0xa100_0000_0001_0008, 0], 0, &[]),
+        (&[], 0, &[]),
+        (&[0xa200_0000_0100_0008, 0], 2, &[FIRST]),
+        (&TWO, 5, &both),
+        (&TWO, 3, &[NINE]),
+        (&TWO_V1, 5, &both),
+    ];
+    assert!(rt; walk_to(rt.alloc(), &rows));
 }
 
 #[test]
@@ -126,8 +138,7 @@ fn longest_span(rt: HostRuntime) {
         len: 4088,
         ds: 255,
     };
-    assert!(rt; walks_to(rt.alloc(), &words, 512, &[span]));
-    assert!(rt; is_bad(rt.alloc(), &words, 511, 0));
+    assert!(rt; walks_to(rt.alloc(), &words, 512, &[span]) && is_bad(rt.alloc(), &words, 511, 0));
 }
 
 #[test]
@@ -140,23 +151,25 @@ fn longest_span_of_version_1(rt: HostRuntime) {
         len: 1016,
         ds: 255,
     };
-    assert!(rt; walks_to(rt.alloc(), &words, 128, &[span]));
-    assert!(rt; is_bad(rt.alloc(), &words, 127, 0));
-    assert!(rt; is_bad(rt.alloc(), &words, 129, 128));
+    let bad = is_bad(rt.alloc(), &words, 127, 0) && is_bad(rt.alloc(), &words, 129, 128);
+    assert!(rt; bad && walks_to(rt.alloc(), &words, 128, &[span]));
 }
 
 // A version 1 span ends by word 128, and none begins there.
-#[test]
-fn logs_of_version_1_end(rt: HostRuntime) {
+fn end_by_word_128(alloc: Global) -> bool {
     let mut words = [0; 512];
     words[0] = 0xa100_0000_0001_03e8;
     words[126] = 0xa100_0000_0001_0008;
     words[128] = 0xa100_0000_0001_0008;
     let (long, last) = (Span { len: 1000, ..FIRST }, Span { at: 126, ..FIRST });
-    assert!(rt; walks_to(rt.alloc(), &words, 128, &[long, last]));
-    assert!(rt; is_bad(rt.alloc(), &words, 130, 128));
+    let end = walks_to(alloc, &words, 128, &[long, last]) && is_bad(alloc, &words, 130, 128);
     words[126] = 0xa100_0000_0001_0009;
-    assert!(rt; is_bad(rt.alloc(), &words, 130, 126));
+    end && is_bad(alloc, &words, 130, 126)
+}
+
+#[test]
+fn logs_of_version_1_end(rt: HostRuntime) {
+    assert!(rt; end_by_word_128(rt.alloc()));
 }
 
 // Whether these are the spans of so many objects of one byte.
@@ -191,31 +204,43 @@ fn shortest_spans(rt: HostRuntime) {
     assert!(rt; walks_to_shortest(rt.alloc(), &words));
 }
 
+fn are_bad(alloc: Global, rows: &[(&[u64], usize, u16)]) -> bool {
+    for (words, tail, at) in rows {
+        if !is_bad(alloc, words, *tail, *at) {
+            return false;
+        }
+    }
+    true
+}
+
 #[test]
 fn bad_words(rt: HostRuntime) {
-    let alloc = rt.alloc();
-    assert!(rt; is_bad(alloc, &[0xa100_0000_0001_0008, 0], 1, 0));
-    assert!(rt; is_bad(alloc, &[0xa100_0000_0001_0001, 0x100], 2, 1));
-    let past = [0xa100_0000_0101_0008, 0, 0xa100_0000_0201_03f8];
-    assert!(rt; is_bad(alloc, &past, 3, 2));
-    assert!(rt; is_bad(alloc, &[0, 0], 2, 0));
-    assert!(rt; is_bad(alloc, &[0xa000_0000_0001_0008, 0], 2, 0));
-    assert!(rt; is_bad(alloc, &[0xa100_0000_0001_03f9, 0], 2, 0));
-    assert!(rt; is_bad(alloc, &[0xa100_0004_0001_0008, 0], 2, 0));
-    assert!(rt; is_bad(alloc, &[0xa200_0000_0100_0ff9, 0], 2, 0));
-    assert!(rt; is_bad(alloc, &[0xa200_0800_0100_0008, 0], 2, 0));
-    assert!(rt; is_bad(alloc, &TWO, 6, 5));
-    assert!(rt; is_bad(alloc, &TWO, 4, 3));
-    assert!(rt; is_bad(alloc, &[TWO[0], 0, 0x100, 0, 0], 5, 2));
+    let rows: [(&[u64], usize, u16); 12] = [
+        (&[0xa100_0000_0001_0008, 0], 1, 0),
+        (&[0xa100_0000_0001_0001, 0x100], 2, 1),
+        (&[0xa100_0000_0101_0008, 0, 0xa100_0000_0201_03f8], 3, 2),
+        (&[0, 0], 2, 0),
+        (&[0xa000_0000_0001_0008, 0], 2, 0),
+        (&[0xa100_0000_0001_03f9, 0], 2, 0),
+        (&[0xa100_0004_0001_0008, 0], 2, 0),
+        (&[0xa200_0000_0100_0ff9, 0], 2, 0),
+        (&[0xa200_0800_0100_0008, 0], 2, 0),
+        (&TWO, 6, 5),
+        (&TWO, 4, 3),
+        (&[0xa200_0005_0200_0009, 0, 0x100, 0, 0], 5, 2),
+    ];
+    assert!(rt; are_bad(rt.alloc(), &rows));
 }
 
 // A header of the other version is bad, whichever comes first.
 #[test]
 fn versions_are_not_mixed(rt: HostRuntime) {
-    let alloc = rt.alloc();
     let (first, second) = (0xa100_0000_0001_0008, 0xa200_0000_0100_0008);
-    assert!(rt; is_bad(alloc, &[first, 0, second, 0], 4, 2));
-    assert!(rt; is_bad(alloc, &[second, 0, first, 0], 4, 2));
+    let rows: [(&[u64], usize, u16); 2] = [
+        (&[first, 0, second, 0], 4, 2),
+        (&[second, 0, first, 0], 4, 2),
+    ];
+    assert!(rt; are_bad(rt.alloc(), &rows));
 }
 
 // Whether the first `tail` of these words become these, and the words behind them stay as they were.
@@ -243,21 +268,41 @@ fn refuses(words: &[u64], tail: usize, at: u16) -> bool {
     }
 }
 
+fn convert_to(rows: &[(&[u64], usize, [u64; 6])]) -> bool {
+    for (words, tail, wanted) in rows {
+        if !converts_to(words, *tail, wanted) {
+            return false;
+        }
+    }
+    true
+}
+
+fn refuses_bad() -> bool {
+    let (first, second) = (0xa100_0000_0001_0008, 0xa200_0000_0100_0008);
+    refuses(&[0xa100_0000_0001_0001, 0x100], 2, 1)
+        && refuses(&[first, 0, second, 0], 4, 2)
+        && refuses(&[first, 0], 1, 0)
+}
+
 #[test]
 fn converted(rt: HostRuntime) {
     let (first, second) = (0xa100_0000_0001_0008, 0xa200_0000_0100_0008);
-    assert!(rt; converts_to(&[first, 0], 2, &[second, 0, 7, 7, 7, 7]));
-    assert!(rt; converts_to(&[second, 0], 2, &[second, 0, 7, 7, 7, 7]));
-    assert!(rt; converts_to(&[first, 0], 0, &[7; 6]));
-    assert!(rt; converts_to(&[], 0, &[7; 6]));
-    let high = [0xa100_0000_8001_0008, 9, 0xa100_0003_ff01_0001, 1];
-    let there = [0xa200_0100_0100_0008, 9, 0xa200_077f_0100_0001, 1, 7, 7];
-    assert!(rt; converts_to(&high, 4, &there));
-    assert!(rt; converts_to(&TWO_V1, 5, &[TWO[0], TWO[1], TWO[2], TWO[3], TWO[4], 7]));
-    assert!(rt; converts_to(&TWO, 5, &[TWO[0], TWO[1], TWO[2], TWO[3], TWO[4], 7]));
-    assert!(rt; refuses(&[0xa100_0000_0001_0001, 0x100], 2, 1));
-    assert!(rt; refuses(&[first, 0, second, 0], 4, 2));
-    assert!(rt; refuses(&[first, 0], 1, 0));
+    let mut two = TWO;
+    two[5] = 7;
+    let rows: [(&[u64], usize, [u64; 6]); 7] = [
+        (&[first, 0], 2, [second, 0, 7, 7, 7, 7]),
+        (&[second, 0], 2, [second, 0, 7, 7, 7, 7]),
+        (&[first, 0], 0, [7; 6]),
+        (&[], 0, [7; 6]),
+        (
+            &[0xa100_0000_8001_0008, 9, 0xa100_0003_ff01_0001, 1],
+            4,
+            [0xa200_0100_0100_0008, 9, 0xa200_077f_0100_0001, 1, 7, 7],
+        ),
+        (&TWO_V1, 5, two),
+        (&TWO, 5, two),
+    ];
+    assert!(rt; convert_to(&rows) && refuses_bad());
 }
 
 // Whether none of some values is this one.
@@ -270,39 +315,40 @@ fn lacks<T: PartialEq>(others: &[T], value: &T) -> bool {
     true
 }
 
-#[test]
-fn values_differ(rt: HostRuntime) {
+fn spans_differ() -> bool {
+    let others = [
+        Span { at: 1, ..FIRST },
+        Span { p: 1, ..FIRST },
+        Span { len: 9, ..FIRST },
+        Span { ds: 2, ..FIRST },
+    ];
+    lacks(&others, &FIRST)
+}
+
+fn rows_differ() -> bool {
+    let others = [
+        LogRow { log: 2, ..ROW },
+        LogRow { live: 0, ..ROW },
+        LogRow { dead: 0, ..ROW },
+        LogRow { unused: 0, ..ROW },
+    ];
+    lacks(&others, &ROW)
+}
+
+fn faults_differ() -> bool {
     let bad = BadWord { at: 2, word: 3 };
     let (later, less) = (BadWord { at: 3, ..bad }, BadWord { word: 2, ..bad });
-    assert!(rt;
-        lacks(
-            &[
-                Span { at: 1, ..FIRST },
-                Span { p: 1, ..FIRST },
-                Span { len: 9, ..FIRST },
-                Span { ds: 2, ..FIRST },
-            ],
-            &FIRST,
-        )
-    );
-    assert!(rt;
-        lacks(
-            &[
-                LogRow { log: 2, ..ROW },
-                LogRow { live: 0, ..ROW },
-                LogRow { dead: 0, ..ROW },
-                LogRow { unused: 0, ..ROW },
-            ],
-            &ROW,
-        )
-    );
-    assert!(rt; lacks(&[later, less], &bad));
     let faults = [
         WalkFault::Bad(later),
         WalkFault::Bad(less),
         WalkFault::Memory,
     ];
-    assert!(rt; lacks(&faults, &WalkFault::Bad(bad)));
+    lacks(&[later, less], &bad) && lacks(&faults, &WalkFault::Bad(bad))
+}
+
+#[test]
+fn values_differ(rt: HostRuntime) {
+    assert!(rt; spans_differ() && rows_differ() && faults_differ());
 }
 
 // Whether a fault's text is this.
@@ -317,13 +363,13 @@ fn says(alloc: Global, fault: WalkFault, text: &str) -> bool {
 fn texts(rt: HostRuntime) {
     let bad = BadWord { at: 2, word: 3 };
     let alloc = rt.alloc();
-    assert!(rt; says(alloc, WalkFault::Memory, "a growth was refused"));
     assert!(rt;
-        says(
-            alloc,
-            WalkFault::Bad(bad),
-            "word 2 of the log is 0000000000000003"
-        )
+        says(alloc, WalkFault::Memory, "a growth was refused")
+            && says(
+                alloc,
+                WalkFault::Bad(bad),
+                "word 2 of the log is 0000000000000003"
+            )
     );
 }
 

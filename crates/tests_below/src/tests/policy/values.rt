@@ -64,6 +64,16 @@ fn takes<P: Policy>(policy: &mut P, rows: &[LogRow], most: usize, wanted: &[u8])
     }
 }
 
+// Whether it takes these of the four, one choice after another, and none where there are no rows.
+fn takes_each<P: Policy>(policy: &mut P, rows: &[(usize, &[u8])]) -> bool {
+    for (most, wanted) in rows {
+        if !takes(policy, &FOUR, *most, wanted) {
+            return false;
+        }
+    }
+    takes(policy, &[], 3, &[])
+}
+
 fn is_refused(answer: Result<(), Refused>, log: u8) -> bool {
     let bad = Refused::BadChoice(log);
     answer == Err(bad) && bad.number() == 17
@@ -107,21 +117,25 @@ fn readme(rt: HostRuntime) -> Result<(), Fail> {
 
 #[test]
 fn oldest_takes_the_first(rt: HostRuntime) {
-    assert!(rt; takes(&mut Oldest, &FOUR, 2, &[5, 2]));
-    assert!(rt; takes(&mut Oldest, &FOUR, 0, &[]));
-    assert!(rt; takes(&mut Oldest, &FOUR, 4, &[5, 2, 9, 0]));
-    assert!(rt; takes(&mut Oldest, &FOUR, usize::MAX, &[5, 2, 9, 0]));
-    assert!(rt; takes(&mut Oldest, &[], 3, &[]));
+    let rows: [(usize, &[u8]); 4] = [
+        (2, &[5, 2]),
+        (0, &[]),
+        (4, &[5, 2, 9, 0]),
+        (usize::MAX, &[5, 2, 9, 0]),
+    ];
+    assert!(rt; takes_each(&mut Oldest, &rows));
 }
 
 #[test]
 fn least_live_takes_the_emptiest(rt: HostRuntime) {
-    assert!(rt; takes(&mut LeastLive, &FOUR, 1, &[9]));
-    assert!(rt; takes(&mut LeastLive, &FOUR, 2, &[9, 0]));
-    assert!(rt; takes(&mut LeastLive, &FOUR, 3, &[9, 0, 2]));
-    assert!(rt; takes(&mut LeastLive, &FOUR, 0, &[]));
-    assert!(rt; takes(&mut LeastLive, &FOUR, usize::MAX, &[9, 0, 2, 5]));
-    assert!(rt; takes(&mut LeastLive, &[], 3, &[]));
+    let rows: [(usize, &[u8]); 5] = [
+        (1, &[9]),
+        (2, &[9, 0]),
+        (3, &[9, 0, 2]),
+        (0, &[]),
+        (usize::MAX, &[9, 0, 2, 5]),
+    ];
+    assert!(rt; takes_each(&mut LeastLive, &rows));
 }
 
 // Whether a script's logs are taken in its order.
@@ -131,23 +145,37 @@ fn takes_named(named: &[u8], rows: &[LogRow], most: usize) -> bool {
 
 #[test]
 fn script_is_taken_in_its_order(rt: HostRuntime) {
-    assert!(rt; takes_named(&[9, 5], &FOUR, 2));
-    assert!(rt; takes_named(&[0, 9, 2, 5], &FOUR, 64));
-    assert!(rt; takes_named(&[], &FOUR, 0));
-    assert!(rt; takes_named(&[], &[], 4));
+    assert!(rt;
+        takes_named(&[9, 5], &FOUR, 2)
+            && takes_named(&[0, 9, 2, 5], &FOUR, 64)
+            && takes_named(&[], &FOUR, 0)
+            && takes_named(&[], &[], 4)
+    );
+}
+
+fn refuses_each(rows: &[(&[u8], &[LogRow], usize, u8)]) -> bool {
+    for (named, logs, most, log) in rows {
+        if !refuses(named, logs, *most, *log) {
+            return false;
+        }
+    }
+    true
 }
 
 #[test]
 fn script_is_refused(rt: HostRuntime) {
     let one = [row(0, 16)];
-    assert!(rt; refuses(&[1], &one, 1, 1));
-    assert!(rt; refuses(&[0, 0], &one, 2, 0));
-    assert!(rt; refuses(&[0], &[], 1, 0));
-    assert!(rt; refuses(&[0], &one, 0, 0));
-    assert!(rt; refuses(&[9, 5, 2], &FOUR, 2, 2));
-    assert!(rt; refuses(&[9, 255, 9], &FOUR, 4, 255));
-    assert!(rt; refuses(&[9, 9, 255], &FOUR, 4, 9));
-    assert!(rt; refuses(&[64], &FOUR, 4, 64));
+    let rows: [(&[u8], &[LogRow], usize, u8); 8] = [
+        (&[1], &one, 1, 1),
+        (&[0, 0], &one, 2, 0),
+        (&[0], &[], 1, 0),
+        (&[0], &one, 0, 0),
+        (&[9, 5, 2], &FOUR, 2, 2),
+        (&[9, 255, 9], &FOUR, 4, 255),
+        (&[9, 9, 255], &FOUR, 4, 9),
+        (&[64], &FOUR, 4, 64),
+    ];
+    assert!(rt; refuses_each(&rows));
 }
 
 // Rows of all logs of the largest heap, the last log first; each second one has as many live bytes as the one before it.
@@ -181,11 +209,13 @@ fn rising_logs() -> [u8; 64] {
 fn largest_heap(rt: HostRuntime) {
     let rows = largest_rows();
     let falling = falling_logs();
-    assert!(rt; takes(&mut Oldest, &rows, 64, &falling));
-    assert!(rt; takes(&mut LeastLive, &rows, 64, &rising_logs()));
-    assert!(rt; takes_named(&falling, &rows, 64));
-    assert!(rt; refuses(&falling, &rows, 63, 0));
-    assert!(rt; MOST_CHOSEN == 64);
+    assert!(rt;
+        takes(&mut Oldest, &rows, 64, &falling)
+            && takes(&mut LeastLive, &rows, 64, &rising_logs())
+            && takes_named(&falling, &rows, 64)
+            && refuses(&falling, &rows, 63, 0)
+            && MOST_CHOSEN == 64
+    );
 }
 
 // Whether the policy refuses the four rows with this log.
@@ -202,26 +232,30 @@ fn refuses_four(policy: &mut Youngest, log: u8) -> bool {
 #[test]
 fn policy_of_the_tests_own(rt: HostRuntime) {
     let mut policy = Youngest { times: 3 };
-    assert!(rt; takes(&mut policy, &FOUR, 7, &[0]));
-    assert!(rt; takes(&mut policy, &FOUR, 0, &[]));
-    assert!(rt; takes(&mut policy, &[], 1, &[]));
-    assert!(rt; refuses_four(&mut policy, 200));
+    assert!(rt;
+        takes(&mut policy, &FOUR, 7, &[0])
+            && takes(&mut policy, &FOUR, 0, &[])
+            && takes(&mut policy, &[], 1, &[])
+            && refuses_four(&mut policy, 200)
+    );
 }
 
-#[test]
-fn lists_are_values(rt: HostRuntime) {
+fn differ_by_what_they_have() -> bool {
     let mut one = Chosen::new();
     let mut other = Chosen::new();
     one.push(7);
     other.push(7);
     other.push(8);
-    assert!(rt; one != other);
+    let differ = one != other;
     let copied = other;
     other.clear();
     other.push(7);
-    assert!(rt; one == other);
-    assert!(rt; copied.contains(8) && !other.contains(8));
-    assert_eq!(rt; copied.len(), 2);
+    differ && one == other && copied.contains(8) && !other.contains(8) && copied.len() == 2
+}
+
+#[test]
+fn lists_are_values(rt: HostRuntime) {
+    assert!(rt; differ_by_what_they_have());
 }
 
 #[test]

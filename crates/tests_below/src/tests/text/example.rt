@@ -95,11 +95,27 @@ const DEVICES: [(&[u8], Option<(Flaw, u64)>, usize); 5] = [
     (b"heap 4 1\nlogs", None, 1),
 ];
 
+fn says_devices(alloc: Global) -> bool {
+    for (text, device, count) in &DEVICES {
+        if !says_device(alloc, text, *device, *count) {
+            return false;
+        }
+    }
+    true
+}
+
 #[test]
 fn a_device_stands_after_the_heap(rt: HostRuntime) {
-    for (text, device, count) in &DEVICES {
-        assert!(rt; says_device(rt.alloc(), text, *device, *count));
+    assert!(rt; says_devices(rt.alloc()));
+}
+
+fn are_refused_at(alloc: Global, texts: &[&[u8]], line: u64) -> bool {
+    for text in texts {
+        if !is_refused_at(alloc, text, line) {
+            return false;
+        }
     }
+    true
 }
 
 #[test]
@@ -121,8 +137,8 @@ fn lines_beside_a_devices_say_nothing(rt: HostRuntime) {
         b"heap 4 1\ndevice fail 3\ndevice fail 3",
         b"heap 4 1\ndevice short 3\ndevice flip 3",
     ];
-    for text in lines {
-        assert!(rt; is_refused_at(rt.alloc(), text, 3));
-    }
-    assert!(rt; is_refused_at(rt.alloc(), b"device flip 1\nheap 4 1", 1));
+    assert!(rt;
+        are_refused_at(rt.alloc(), &lines, 3)
+            && is_refused_at(rt.alloc(), b"device flip 1\nheap 4 1", 1)
+    );
 }

@@ -186,6 +186,15 @@ fn a_device_may_fail_or_lie(rt: HostRuntime) {
     assert!(rt; says_devices(rt.alloc()) && passes_devices(rt.alloc()));
 }
 
+fn are_refused_at(alloc: Global, texts: &[&[u8]], line: u64) -> bool {
+    for text in texts {
+        if !is_refused_at(alloc, text, line) {
+            return false;
+        }
+    }
+    true
+}
+
 #[test]
 fn lines_of_nobody_are_refused(rt: HostRuntime) {
     let lines: [&[u8]; 20] = [
@@ -213,9 +222,7 @@ fn lines_of_nobody_are_refused(rt: HostRuntime) {
         b"\nheap 4 1\ndevice fail 1\ndevice flip 1",
         b"heap 4 1\nlogs\nlogs\ndevice fail 1",
     ];
-    for text in lines {
-        assert!(rt; is_refused_at(rt.alloc(), text, 4));
-    }
+    assert!(rt; are_refused_at(rt.alloc(), &lines, 4));
 }
 
 // Whether a heap may have so many mutators isn't asked.

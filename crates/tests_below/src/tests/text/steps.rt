@@ -90,6 +90,15 @@ fn each_step_is_read(rt: HostRuntime) {
     assert!(rt; says_steps(rt.alloc(), text));
 }
 
+fn say_nothing(alloc: Global, texts: &[&[u8]]) -> bool {
+    for text in texts {
+        if !says_nothing(alloc, text) {
+            return false;
+        }
+    }
+    true
+}
+
 #[test]
 fn lines_beside_them_say_nothing(rt: HostRuntime) {
     let lines: [&[u8]; 12] = [
@@ -106,7 +115,5 @@ fn lines_beside_them_say_nothing(rt: HostRuntime) {
         b"heap 1 1\nmark",
         b"heap 1 1\nwait 0",
     ];
-    for line in lines {
-        assert!(rt; says_nothing(rt.alloc(), line));
-    }
+    assert!(rt; say_nothing(rt.alloc(), &lines));
 }
