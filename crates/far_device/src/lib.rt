@@ -11,8 +11,6 @@ mod laws;
 mod liar;
 mod mem;
 mod slot;
-#[cfg(test)]
-mod tests;
 
 pub use device::Device;
 pub use fail_at::FailAt;

@@ -45,6 +45,13 @@ impl MemDevice {
         }
     }
 
+    /// How many bytes have room under a key of the row; none where it isn't so long yet.
+    pub fn room(&self, id: u32) -> Option<usize>
+        ensures { id < ROW → IfSome (bytes_at self.now id) (λ stored. IfSome result (λ room. length stored ≤ room)) }
+    {
+        Some(self.row.get(id as usize)?.buffer.capacity())
+    }
+
     // What is under a key.
     #[inline(always)]
     fn stored(&self, id: u32) -> Option<&[u8]>

@@ -6,7 +6,5 @@
 #![tactic(auto)]
 
 mod signs;
-#[cfg(test)]
-mod tests;
 
 pub use signs::{EVERY, Found, Signs, Waiter};
