@@ -116,15 +116,11 @@ impl<K: HeapName, D: Device + Drop> Evacuator<K, D> {
         ensures honest { (x : State) → seat_may_be self.now.book.near x → x.honest ≡ true → D.honest self.now.book.device ≡ true }
         ensures there { ∥ ((x : State) × seat_may_be self.now.book.near x) ∥₁ }
     {
-        self.standing();
+        self.stands();
     }
 
-    // How large the heap is, where the round stands, and what holds by the book and the round alone. Its callers call this, and so pay for one call over the
-    // seat of a table.
-    fn standing(&self) -> (Shape, Phase)
-        ensures shape { result.0 ≡ shape_of (seat_view self.now.book.near) }
-        ensures range { is_shape result.0 ≡ true }
-        ensures phase { result.1 ≡ self.now.phase }
+    // What holds by the book and the round alone. Its callers call this, and so pay for one call over the seat of a table.
+    fn stands(&self)
         ensures named { heap_of self.now.copying self.now.book.near ≡ K.heap }
         ensures law { Law (own_part (seat_view self.now.book.near)) }
         ensures moment { MomentLaw (moment seat_view self.now) }
@@ -133,7 +129,7 @@ impl<K: HeapName, D: Device + Drop> Evacuator<K, D> {
         ensures leaving { self.now.phase ≡ Evacuating → (x : State) → seat_may_be self.now.book.near x → NoneViews (among self.now.collection) x }
         ensures waiting { has_risen self.now.phase ≡ true → (x : State) → seat_may_be self.now.book.near x → (m : ℕ) → (seat_view self.now.book.near).clear m ≡ true → ViewsNone (among self.now.collection) m x }
     {
-        held::standing(&self.evac)
+        held::keeps_law(&self.evac);
     }
 
     /// How large the heap is, and its epoch now.
@@ -141,14 +137,14 @@ impl<K: HeapName, D: Device + Drop> Evacuator<K, D> {
         ensures is { result ≡ shape_of (seat_view self.now.book.near) }
         ensures range { is_shape result ≡ true }
     {
-        self.standing().0
+        held::shape(&self.evac)
     }
 
     /// Where the round stands.
     pub fn phase(&self) -> Phase
         ensures { result ≡ self.now.phase }
     {
-        self.standing().1
+        self.evac.phase()
     }
 
     /// What a log is and has, of a number below [`Evacuator::shape`]'s; one that is chosen and not yet given back is named so.

@@ -1,21 +1,18 @@
 //! What an evacuator does by several calls, over any hand of a book. Each call at the one seat of a table costs its proof seven seconds, and one here none.
 
 ghost use Rattle.std.specs.Prelude.{◌≡◌, ◌⊎◌, ◌/◌, ◌<◌, ◌≤◌, ◌*◌, ℕ, [], Some, Ok, Err, false, true, IsSome, IfOk, IfErr};
-ghost use Rattle.far_word.specs.Pointer.{read_of};
 ghost use Rattle.far_word.specs.Sizes.{size_of};
 ghost use Rattle.far_word.specs.declared.pointer.Place.{Place};
 ghost use Rattle.far_word.specs.declared.refused.Refused.TheVariants.{NoPointer, NoRoom};
 ghost use Rattle.far_word.specs.declared.sizes.TheConstants.{CELLS, LONGEST};
-ghost use Rattle.far_core.specs.events.Naming.{is_dropped};
 ghost use Rattle.far_core.specs.state.Law.{Law};
 ghost use Rattle.far_core.specs.state.Room.{room};
 ghost use Rattle.far_core.specs.state.Shape.{is_shape};
 ghost use Rattle.far_core.specs.state.State.{State};
 ghost use Rattle.far_hand.specs.Came.{Came};
 ghost use Rattle.far_hand.specs.MayBe.{NoneViews, ViewsNone};
-ghost use Rattle.far_hand.specs.Quiet.{IsQuietNear};
 ghost use Rattle.far_hand.specs.ShapeOf.{shape_of};
-ghost use Rattle.far_book.specs.book.Calls.{FetchesObject, MovesObject, PlacesObject, RetiresObject};
+ghost use Rattle.far_book.specs.book.Calls.{FetchesObject, PlacesObject};
 ghost use Rattle.far_book.specs.book.FarSide.{HoldsFar};
 ghost use Rattle.far_book.specs.book.Fetching.{IsFar};
 ghost use Rattle.far_book.specs.book.Ledger.{IsLowestFree};
@@ -26,13 +23,12 @@ ghost use Rattle.far_evac.specs.RoundSteps.{among};
 ghost use Rattle.far_evac.specs.declared.phase.Phase.TheVariants.{Evacuating, Idle};
 ghost use Rattle.far_heap.specs.BookHad.{LacksRoom, NoneFree};
 ghost use Rattle.far_heap.specs.Rounds.{is_round_of};
-ghost use Rattle.far_heap.specs.declared.evacuator.held.Deed.TheVariants.{Fetch, Move, Retire};
 
 use crate::evacuator::turns::has_each;
 use far_book::{Book, Near};
 use far_core::Shape;
 use far_device::Device;
-use far_evac::{Evac, Phase};
+use far_evac::Evac;
 use far_policy::Chosen;
 use far_word::{Place, Refused};
 
@@ -52,13 +48,9 @@ pub(crate) fn over<N: Near + Drop, D: Device + Drop>(book: Book<N, D>, copying: 
     }
 }
 
-// How large the heap is, with its epoch now, and where the round stands. What its book knows keeps its part of the law of the core, and the round agrees
-// with it. The device holds bytes of each far object, and of each near one without DIRTY, and is honest where the words say that the far side is. And whom
-// no owner views, as `nobody_views` says.
-pub(crate) fn standing<N: Near + Drop, D: Device + Drop>(evac: &Evac<N, D>) -> (Shape, Phase)
-    ensures shape { result.0 ≡ shape_of (N.view evac.now.book.near) }
-    ensures range { is_shape result.0 ≡ true }
-    ensures phase { result.1 ≡ evac.now.phase }
+// What its book knows keeps its part of the law of the core, and the round agrees with it. The device holds bytes of each far object, and of each near one
+// without DIRTY, and is honest where the words say that the far side is. And whom no owner views, as `nobody_views` says.
+pub(crate) fn keeps_law<N: Near + Drop, D: Device + Drop>(evac: &Evac<N, D>)
     ensures law { Law (own_part (N.view evac.now.book.near)) }
     ensures moment { MomentLaw (moment N.view evac.now) }
     ensures far { HoldsFar (N.view evac.now.book.near) (D.contents evac.now.book.device) }
@@ -68,9 +60,15 @@ pub(crate) fn standing<N: Near + Drop, D: Device + Drop>(evac: &Evac<N, D>) -> (
 {
     evac.nobody_views();
     evac.keeps_law();
-    let book = evac.book();
-    book.keeps_law();
-    (book.shape(), evac.phase())
+    evac.book().keeps_law();
+}
+
+// How large the heap is, and its epoch now.
+pub(crate) fn shape<N: Near + Drop, D: Device + Drop>(evac: &Evac<N, D>) -> Shape
+    ensures is { result ≡ shape_of (N.view evac.now.book.near) }
+    ensures range { is_shape result ≡ true }
+{
+    evac.book().shape()
 }
 
 // Places a new object of zeros for a mutator's lowest free cell: its pointer. Refused NoPointer exactly where no cell is free, then NoRoom exactly where there
@@ -105,40 +103,19 @@ pub(crate) fn place_new<N: Near + Drop, D: Device + Drop>(
     }
 }
 
-// What the book does with an object of an owner that has the lock: it brings it near, moves it, or frees its cell.
-#[derive(Clone, Copy)]
-pub(crate) enum Deed {
-    Fetch,
-    Move,
-    Retire,
-}
-
-// Does so with an object, over a device that is honest where the words say that the far side is: what a fetch or a move answers.
-pub(crate) fn settle<N: Near + Drop, D: Device + Drop>(
+// Fetches a far object, over a device that is honest where the words say that the far side is.
+pub(crate) fn fetch<N: Near + Drop, D: Device + Drop>(
     evac: &mut Evac<N, D>,
     pointer: u16,
-    deed: Deed,
 ) -> Result<Option<Place>, Refused>
     requires pointer { pointer < CELLS * (N.view evac.old.book.near).mutators }
-    requires far { deed ≡ Fetch → IsFar (N.view evac.old.book.near) pointer }
-    requires quiet { deed ≡ Move → IsQuietNear (N.view evac.old.book.near) pointer }
-    requires dropped { deed ≡ Retire → is_dropped (read_of ((N.view evac.old.book.near).cell pointer)) ≡ true }
-    ensures came { Came N.makes evac.old.book.near evac.new.book.near }
+    requires far { IsFar (N.view evac.old.book.near) pointer }
     ensures honest { (N.view evac.old.book.near).honest ≡ true → D.honest evac.old.book.device ≡ true }
-    ensures fetched { deed ≡ Fetch → FetchesObject N.still N.view N.makes D.contents D.honest D.faults D.fails_at_most D.lets_go D.forgets D.reads D.reads_in_place evac.old.book evac.new.book pointer result }
-    ensures moved { deed ≡ Move → MovesObject N.still N.view N.makes D.contents D.honest D.faults D.fails_at_most D.lets_go D.forgets evac.old.book evac.new.book pointer result }
-    ensures retired { deed ≡ Retire → RetiresObject N.still N.view N.makes D.contents D.honest D.faults D.fails_at_most D.lets_go D.forgets evac.old.book evac.new.book pointer }
+    ensures fetched { FetchesObject N.still N.view N.makes D.contents D.honest D.faults D.fails_at_most D.lets_go D.forgets D.reads D.reads_in_place evac.old.book evac.new.book pointer result }
     ensures round { SameRound evac.old evac.new }
 {
-    standing(evac);
-    match deed {
-        Deed::Fetch => evac.fetch(pointer),
-        Deed::Move => evac.move_now(pointer),
-        Deed::Retire => {
-            evac.retire(pointer);
-            Ok(None)
-        }
-    }
+    keeps_law(evac);
+    evac.fetch(pointer)
 }
 
 // Whether a round of these logs is running: the round's logs that aren't given back are the last of these logs, or, in a heap with copiers, any of these.

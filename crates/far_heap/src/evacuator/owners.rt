@@ -8,20 +8,15 @@ ghost use Rattle.far_word.specs.declared.sizes.TheConstants.{CELLS, LONGEST};
 ghost use Rattle.far_core.specs.events.Naming.{is_dropped};
 ghost use Rattle.far_core.specs.state.Room.{room};
 ghost use Rattle.far_hand.specs.Came.{Came};
-ghost use Rattle.far_hand.specs.Quiet.{IsQuietNear};
 ghost use Rattle.far_table.specs.BookSeats.{seat_makes, seat_view};
 ghost use Rattle.far_table.specs.declared.book.BookSeat.{BookSeat as seat_of};
-ghost use Rattle.far_book.specs.book.Calls.{FetchesObject, MovesObject, RetiresObject};
-ghost use Rattle.far_book.specs.book.Fetching.{IsFar};
 ghost use Rattle.far_book.specs.book.Home.{home_of};
 ghost use Rattle.far_book.specs.book.Ledger.{IsLowestFree};
 ghost use Rattle.far_evac.specs.EvacOf.{EvacOf, SameRound};
 ghost use Rattle.far_heap.specs.Helping.{FetchesIt, Looks, LooksAndRetires, MovesIt, PlacesNew, asks_move, cell_in, says_far};
 ghost use Rattle.far_heap.specs.Mine.{IsUnbrought};
-ghost use Rattle.far_heap.specs.declared.evacuator.held.Deed.TheVariants.{Fetch, Move, Retire};
 ghost use Rattle.far_heap.specs.BookHad.{BookDid, BookHad, IsFreed, LacksRoom, NoneFree, Unbrought};
 
-use crate::evacuator::held::Deed;
 use crate::evacuator::{Evacuator, held};
 use crate::name::HeapName;
 use crate::own::{DropAsked, MoveAsked};
@@ -79,22 +74,6 @@ impl<K: HeapName, D: Device + Drop> Evacuator<K, D> {
         held::place_new(&mut self.evac, owner, len, ds)
     }
 
-    // Brings an object near, moves it, or frees its cell. Its callers call this, and so pay for one call over the seat of a table.
-    fn settle(&mut self, pointer: u16, deed: Deed) -> Result<Option<Place>, Refused>
-        requires pointer { pointer < CELLS * (seat_view self.old.book.near).mutators }
-        requires far { deed ≡ Fetch → IsFar (seat_view self.old.book.near) pointer }
-        requires quiet { deed ≡ Move → IsQuietNear (seat_view self.old.book.near) pointer }
-        requires dropped { deed ≡ Retire → is_dropped (cell_in self.old pointer) ≡ true }
-        ensures came { Came seat_makes self.old.book.near self.new.book.near }
-        ensures honest { (seat_view self.old.book.near).honest ≡ true → D.honest self.old.book.device ≡ true }
-        ensures fetched { deed ≡ Fetch → FetchesObject ⊥ seat_view seat_makes D.contents D.honest D.faults D.fails_at_most D.lets_go D.forgets D.reads D.reads_in_place self.old.book self.new.book pointer result }
-        ensures moved { deed ≡ Move → MovesObject ⊥ seat_view seat_makes D.contents D.honest D.faults D.fails_at_most D.lets_go D.forgets self.old.book self.new.book pointer result }
-        ensures retired { deed ≡ Retire → RetiresObject ⊥ seat_view seat_makes D.contents D.honest D.faults D.fails_at_most D.lets_go D.forgets self.old.book self.new.book pointer }
-        ensures round { SameRound self.old self.new }
-    {
-        held::settle(&mut self.evac, pointer, deed)
-    }
-
     // Fetches a far object, by one look at its cell: what the fetch answers. `None` where it isn't far; nothing else is done then.
     pub(crate) fn fetch_far(&mut self, pointer: u16) -> Option<Result<Option<Place>, Refused>>
         requires pointer { pointer < CELLS * K.heap.mutators }
@@ -110,7 +89,7 @@ impl<K: HeapName, D: Device + Drop> Evacuator<K, D> {
         if !is_far(self.locate(pointer)) {
             return None;
         }
-        Some(self.settle(pointer, Deed::Fetch))
+        Some(held::fetch(&mut self.evac, pointer))
     }
 
     // Moves a near object that its owner has asked for, by one look at its cell, where the round wants its log; else it stays, without MOVE: what the move
@@ -130,7 +109,7 @@ impl<K: HeapName, D: Device + Drop> Evacuator<K, D> {
         if !has_move(self.locate(pointer)) {
             return None;
         }
-        Some(self.settle(pointer, Deed::Move))
+        Some(self.evac.move_now(pointer))
     }
 
     // Frees the cell of an object that its owner dropped, by one look at it, unless a round has done so. The request is used up where the cell is free then,
@@ -147,7 +126,7 @@ impl<K: HeapName, D: Device + Drop> Evacuator<K, D> {
         self.keeps_law();
         let found = self.locate(pointer);
         if has_drop(found) {
-            let _retired = self.settle(pointer, Deed::Retire);
+            self.evac.retire(pointer);
             asked.end();
             return None;
         }

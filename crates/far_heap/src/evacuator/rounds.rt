@@ -51,7 +51,7 @@ impl<K: HeapName, D: Device + Drop> Evacuator<K, D> {
         ensures leaving { self.now.phase ≡ phase.Evacuating → (x : State) → seat_may_be self.now.book.near x → NoneViews (among self.now.collection) x }
         ensures waiting { has_risen self.now.phase ≡ true → (x : State) → seat_may_be self.now.book.near x → (m : ℕ) → (seat_view self.now.book.near).clear m ≡ true → ViewsNone (among self.now.collection) m x }
     {
-        self.standing();
+        self.stands();
     }
 
     /// Deals with the first n live objects of the collection set, or with all, in order: one that its owner has dropped is retired; a

@@ -7,13 +7,13 @@ use Rattle.far_heap.proofs.FarSides.{honest_shown}
 use Rattle.far_heap.proofs.evacuator.Evacuator.keeps_law.Goals as goal
 
 pub returns-clause-named : goal.returns-clause-named
-returns-clause-named g c = c.standing.ensures.named
+returns-clause-named g c = c.stands.ensures.named
 
 pub returns-clause-law : goal.returns-clause-law
-returns-clause-law g c = c.standing.ensures.law
+returns-clause-law g c = c.stands.ensures.law
 
 pub returns-clause-moment : goal.returns-clause-moment
-returns-clause-moment g c = c.standing.ensures.moment
+returns-clause-moment g c = c.stands.ensures.moment
 
 pub returns-clause-whole : goal.returns-clause-whole
 returns-clause-whole g c = λ x may. is_whole x (seat_lawful c.args.self.now.book.near x may)
@@ -26,13 +26,13 @@ returns-clause-jobs g c = λ x may. jobs_stand x (seat_lawful c.args.self.now.bo
 
 pub returns-clause-far : goal.returns-clause-far
 returns-clause-far g c = λ x may.
-    shown_holds (seat_view c.args.self.now.book.near) x (g.D.Device.contents c.args.self.now.book.device) (seat_shown c.args.self.now.book.near x may) c.standing.ensures.far
+    shown_holds (seat_view c.args.self.now.book.near) x (g.D.Device.contents c.args.self.now.book.device) (seat_shown c.args.self.now.book.near x may) c.stands.ensures.far
 
 pub returns-clause-own : goal.returns-clause-own
 returns-clause-own g c = λ x may. holds_own x (g.D.Device.contents c.args.self.now.book.device) (seat_lawful c.args.self.now.book.near x may) (returns-clause-far g c x may)
 
 pub returns-clause-honest : goal.returns-clause-honest
-returns-clause-honest g c = λ x may h. c.standing.ensures.honest (honest_shown (seat_view c.args.self.now.book.near) x (seat_shown c.args.self.now.book.near x may) h)
+returns-clause-honest g c = λ x may h. c.stands.ensures.honest (honest_shown (seat_view c.args.self.now.book.near) x (seat_shown c.args.self.now.book.near x may) h)
 
 pub returns-clause-there : goal.returns-clause-there
 returns-clause-there g c = seat_there c.args.self.now.book.near

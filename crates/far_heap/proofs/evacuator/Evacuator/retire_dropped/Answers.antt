@@ -1,9 +1,12 @@
-use Rattle.std.proofs.Common.{◌∙◌, ◌*◌, ◌<◌, ℕ, subst, sym, refl}
+use Rattle.std.proofs.Common.{◌≡◌, ◌∙◌, ◌*◌, ◌<◌, ℕ, true, subst, sym, refl}
 use Rattle.std.proofs.lemmas.Bool.{false≢true}
 use Rattle.far_word.specs.declared.sizes.TheConstants.{CELLS}
+use Rattle.far_core.specs.events.Naming.{is_dropped}
+use Rattle.far_table.specs.declared.book.BookSeat.{BookSeat}
 use Rattle.far_table.specs.BookSeats.{seat_there, seat_view}
+use Rattle.far_evac.specs.EvacOf.{EvacOf, SameRound}
 use Rattle.far_heap.specs.HeapId.{HeapId}
-use Rattle.far_heap.specs.Helping.{LooksAndRetires}
+use Rattle.far_heap.specs.Helping.{Looks, LooksAndRetires, cell_in}
 use Rattle.far_heap.proofs.Bringing.{retires_came}
 use Rattle.far_heap.proofs.Causes.{freed, retired_free}
 use Rattle.far_heap.proofs.Mines.{none_there}
@@ -13,13 +16,15 @@ use Rattle.far_heap.proofs.evacuator.Evacuator.retire_dropped.Goals as goal
 pub locate-found-requires : goal.locate-found-requires
 locate-found-requires g c = record { pointer = subst (λ (h : HeapId). c.args.asked.pointer < CELLS * h.mutators) (sym c.keeps_law.ensures.named) c.requires.pointer }
 
-pub settle-retired-requires-clause-pointer : goal.settle-retired-requires-clause-pointer
-settle-retired-requires-clause-pointer g c =
-    let named = stays_named g.K.HeapName.heap c.args.self.now c.locate-found.new.self c.locate-found.ensures.found.came c.locate-found.ensures.round.2 c.keeps_law.ensures.named in
-    subst (λ (h : HeapId). c.args.asked.pointer < CELLS * h.mutators) (sym named) c.requires.pointer
+pub retire-requires-clause-pointer : goal.retire-requires-clause-pointer
+retire-requires-clause-pointer g c = subst (λ (h : HeapId). c.args.asked.pointer < CELLS * h.mutators) (sym c.self.invariant) c.requires.pointer
 
-pub settle-retired-requires-clause-dropped : goal.settle-retired-requires-clause-dropped
-settle-retired-requires-clause-dropped g c = λ _. sym (c.has_drop.ensures _ c.locate-found.ensures.found.home) ∙ c.if-has_drop.true
+pub retire-requires-clause-dropped : goal.retire-requires-clause-dropped
+retire-requires-clause-dropped g c = subst (λ (e : EvacOf (BookSeat g.row.D.Denot) g.row.D.Denot). is_dropped (cell_in e c.args.asked.pointer) ≡ true) (sym c.self.view_is)
+    (sym (c.has_drop.ensures _ c.locate-found.ensures.found.home) ∙ c.if-has_drop.true)
+
+pub invariant_of-self : goal.invariant_of-self
+invariant_of-self g c = stays_named _ c.self.inside.evac c.retire.new.self c.retire.ensures.retired.came c.retire.ensures.round.2 c.self.invariant
 
 pub returns-then-has_drop : goal.returns-then-has_drop
 returns-then-has_drop g c =
@@ -27,30 +32,30 @@ returns-then-has_drop g c =
     let d = g.D.Device in
     let l = c.locate-found.ensures.found in
     let round = c.locate-found.ensures.round in
-    let r = c.settle-retired.ensures in
-    let found = c.locate-found.new.self in
-    let later = c.settle-retired.new.self in
-    let retired = r.retired refl in
-    let dropped = sym (c.has_drop.ensures _ l.home) ∙ c.if-has_drop.true in
-    let named = stays_named g.K.HeapName.heap found later r.came r.round.2 (stays_named g.K.HeapName.heap c.args.self.now found l.came round.2 c.keeps_law.ensures.named) in
-    let did : LooksAndRetires d.contents d.honest d.faults d.fails_at_most d.lets_go d.forgets p c.args.self.now later = record {
+    let r = c.retire.ensures in
+    let found = c.self.inside.evac in
+    let on = subst (λ (e : EvacOf (BookSeat g.row.D.Denot) g.row.D.Denot). SameRound e c.retire.new.self) c.self.view_is r.round in
+    let dropped = subst (λ (e : EvacOf (BookSeat g.row.D.Denot) g.row.D.Denot). is_dropped (cell_in e p) ≡ true) (sym c.self.view_is) (sym (c.has_drop.ensures _ l.home) ∙ c.if-has_drop.true) in
+    let named = stays_named g.K.HeapName.heap found c.retire.new.self r.retired.came r.round.2 c.self.invariant in
+    let did : LooksAndRetires d.contents d.honest d.faults d.fails_at_most d.lets_go d.forgets p c.args.self.now c.retire.new.self = record {
       found = found;
-      looked = record { made = l.made; found = l.found; kept = l.kept; order = l.order; device = l.device; round = round };
-      dropped = λ _. record { retired = retired; round = r.round };
+      looked = subst (λ (e : EvacOf (BookSeat g.row.D.Denot) g.row.D.Denot). Looks c.args.self.now e p) (sym c.self.view_is)
+          record { made = l.made; found = l.found; kept = l.kept; order = l.order; device = l.device; round = round };
+      dropped = λ _. record { retired = r.retired; round = r.round };
       alive = λ h. absurd (false≢true (sym h ∙ dropped));
     } in record {
-      round = (r.round.0 ∙ round.0, r.round.1 ∙ round.1, r.round.2 ∙ round.2);
+      round = (on.0 ∙ round.0, on.1 ∙ round.1, on.2 ∙ round.2);
       retired = did;
       did = record {
         before = c.args.self.now;
-        later = later;
+        later = c.retire.new.self;
         named = c.keeps_law.ensures.named;
         lawful = (c.keeps_law.ensures.law, c.keeps_law.ensures.moment);
-        came = retires_came _ _ _ _ _ _ c.args.self.now later p did;
+        came = retires_came _ _ _ _ _ _ c.args.self.now c.retire.new.self p did;
         there = seat_there c.args.self.now.book.near;
         did = did;
       };
-      freed = freed g.K.HeapName.heap later named p (retired_free (seat_view found.book.near) (seat_view later.book.near) p dropped retired.kept);
+      freed = freed g.K.HeapName.heap c.retire.new.self named p (retired_free (seat_view found.book.near) (seat_view c.retire.new.self.book.near) p dropped r.retired.kept);
       again = tt;
     }
 
