@@ -84,12 +84,8 @@ pub fn read_whole<R: Read>(alloc: Global, reader: &mut R, most: usize) -> Result
     ensures read { IfOk result (λ v. IfSome (R.remaining reader.old) (λ text. v.items ≡ take most text)) }
     ensures fault { result ≢ Err RunFault.Write }
 {
-    let Ok(mut buffer) = Vec::with_capacity(alloc, most) else {
-        return Err(RunFault::Memory);
-    };
-    let Ok(()) = read_text(reader, &mut buffer, most) else {
-        return Err(RunFault::Read);
-    };
+    let mut buffer = Vec::with_capacity(alloc, most)?;
+    read_text(reader, &mut buffer, most).map_err(|_| RunFault::Read)?;
     Ok(buffer)
 }
 
@@ -236,19 +232,17 @@ fn answer_heap<W: Write>(
     match new_heap(alloc, shape, device) {
         Ok(evac) => {
             let mut scratch = Scratch::new();
-            match answer_commands(writer, replies, evac, &mut scratch, device, commands) {
-                Ok(()) => Ok(End::Ran),
-                Err(WriteFault) => Err(RunFault::Write),
-            }
+            answer_commands(writer, replies, evac, &mut scratch, device, commands)?;
+            Ok(End::Ran)
         }
         Err(Refused::Memory) => {
             let _ = refuse(writer, replies, Refused::Memory);
             Err(RunFault::Memory)
         }
-        Err(_) => match refuse(writer, replies, Refused::Shape) {
-            Ok(()) => Ok(End::Refused),
-            Err(WriteFault) => Err(RunFault::Write),
-        },
+        Err(_) => {
+            refuse(writer, replies, Refused::Shape)?;
+            Ok(End::Refused)
+        }
     }
 }
 
@@ -299,10 +293,10 @@ fn answer_text<W: Write>(
 {
     match parse(alloc, text) {
         Ok(trace) => answer(alloc, writer, replies, &trace),
-        Err(ParseError::Syntax(line)) => match refuse(writer, replies, Refused::Syntax(line)) {
-            Ok(()) => Ok(End::Refused),
-            Err(WriteFault) => Err(RunFault::Write),
-        },
+        Err(ParseError::Syntax(line)) => {
+            refuse(writer, replies, Refused::Syntax(line))?;
+            Ok(End::Refused)
+        }
         Err(ParseError::Memory) => Err(RunFault::Memory),
     }
 }
@@ -324,11 +318,7 @@ pub fn run<R: Read, W: Write>(
     ensures end { IfOk result (λ end. IfSome (R.remaining reader.old) (λ text. end ≡ end_of (trace_of text))) }
     ensures fault { IfErr result (λ fault. IfSome (R.remaining reader.old) (Leaves fault (W.contents writer.old) (W.contents writer.new))) }
 {
-    let Ok(mut replies) = ReplyWriter::new(alloc) else {
-        return Err(RunFault::Memory);
-    };
-    match read_whole(alloc, reader, LONGEST_TEXT + 1) {
-        Ok(text) => answer_text(alloc, writer, &mut replies, &text),
-        Err(fault) => Err(fault),
-    }
+    let mut replies = ReplyWriter::new(alloc)?;
+    let text = read_whole(alloc, reader, LONGEST_TEXT + 1)?;
+    answer_text(alloc, writer, &mut replies, &text)
 }

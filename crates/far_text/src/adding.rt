@@ -40,10 +40,7 @@ fn add_read<'a>(
         let Entry::Command(command) = entry else {
             return Ok(None);
         };
-        let Ok(kept) = commands.push(command) else {
-            return Err(AllocError);
-        };
-        if !kept {
+        if !commands.push(command)? {
             return Ok(None);
         }
     }

@@ -170,9 +170,7 @@ fn heap_at_end(logs: u64, mutators: u64, rest: Rest<'_>) -> Option<Spelled<'_>>
             Some((entry, lines))
         }
         Rest::Words(text) => {
-            let Some((epoch, rest)) = number_first(text) else {
-                return None;
-            };
+            let (epoch, rest) = number_first(text)?;
             let entry = Entry::Heap {
                 logs,
                 mutators,
@@ -187,12 +185,8 @@ fn heap_spelled(rest: Rest<'_>) -> Option<Spelled<'_>>
     ensures value { option_and_then (λ found. entry_spelled found.0) result ≡ entry_from (NumbersAndOneOr 2 0 says_heap) (words_left rest.entry) }
     ensures lines { IfSome result (λ found. lines_left found.1 ≡ lines_after rest.entry) }
 {
-    let Some((logs, rest)) = next_number_of(rest) else {
-        return None;
-    };
-    let Some((mutators, rest)) = next_number_of(rest) else {
-        return None;
-    };
+    let (logs, rest) = next_number_of(rest)?;
+    let (mutators, rest) = next_number_of(rest)?;
     heap_at_end(logs, mutators, rest)
 }
 
@@ -201,15 +195,9 @@ pub fn new_spelled(rest: Rest<'_>) -> Option<Spelled<'_>>
     ensures value { option_and_then (λ found. entry_spelled found.0) result ≡ entry_from (Numbers 3 asks_new) (words_left rest.entry) }
     ensures lines { IfSome result (λ found. lines_left found.1 ≡ lines_after rest.entry) }
 {
-    let Some((mutator, rest)) = next_number_of(rest) else {
-        return None;
-    };
-    let Some((len, rest)) = next_number_of(rest) else {
-        return None;
-    };
-    let Some((structure, rest)) = next_number_of(rest) else {
-        return None;
-    };
+    let (mutator, rest) = next_number_of(rest)?;
+    let (len, rest) = next_number_of(rest)?;
+    let (structure, rest) = next_number_of(rest)?;
     let request = Request::New { len, structure };
     at_end(Entry::Command(Command::Mutator { mutator, request }), rest)
 }
@@ -219,9 +207,7 @@ pub fn open_spelled(rest: Rest<'_>) -> Option<Spelled<'_>>
     ensures value { option_and_then (λ found. entry_spelled found.0) result ≡ entry_from (Numbers 1 asks_open) (words_left rest.entry) }
     ensures lines { IfSome result (λ found. lines_left found.1 ≡ lines_after rest.entry) }
 {
-    let Some((mutator, rest)) = next_number_of(rest) else {
-        return None;
-    };
+    let (mutator, rest) = next_number_of(rest)?;
     let request = Request::Open;
     at_end(Entry::Command(Command::Mutator { mutator, request }), rest)
 }
@@ -231,18 +217,10 @@ pub fn write_spelled(rest: Rest<'_>) -> Option<Spelled<'_>>
     ensures value { option_and_then (λ found. entry_spelled found.0) result ≡ entry_from (NumbersAndBytes 3 asks_write) (words_left rest.entry) }
     ensures lines { IfSome result (λ found. lines_left found.1 ≡ lines_after rest.entry) }
 {
-    let Some((mutator, rest)) = next_number_of(rest) else {
-        return None;
-    };
-    let Some((pointer, rest)) = next_number_of(rest) else {
-        return None;
-    };
-    let Some((from, rest)) = next_number_of(rest) else {
-        return None;
-    };
-    let Some((bytes, lines)) = last_bytes_of(rest) else {
-        return None;
-    };
+    let (mutator, rest) = next_number_of(rest)?;
+    let (pointer, rest) = next_number_of(rest)?;
+    let (from, rest) = next_number_of(rest)?;
+    let (bytes, lines) = last_bytes_of(rest)?;
     let request = Request::Write {
         pointer,
         from,
@@ -257,18 +235,10 @@ pub fn read_spelled(rest: Rest<'_>) -> Option<Spelled<'_>>
     ensures value { option_and_then (λ found. entry_spelled found.0) result ≡ entry_from (Numbers 4 asks_read) (words_left rest.entry) }
     ensures lines { IfSome result (λ found. lines_left found.1 ≡ lines_after rest.entry) }
 {
-    let Some((mutator, rest)) = next_number_of(rest) else {
-        return None;
-    };
-    let Some((pointer, rest)) = next_number_of(rest) else {
-        return None;
-    };
-    let Some((from, rest)) = next_number_of(rest) else {
-        return None;
-    };
-    let Some((len, rest)) = next_number_of(rest) else {
-        return None;
-    };
+    let (mutator, rest) = next_number_of(rest)?;
+    let (pointer, rest) = next_number_of(rest)?;
+    let (from, rest) = next_number_of(rest)?;
+    let (len, rest) = next_number_of(rest)?;
     let request = Request::Read { pointer, from, len };
     at_end(Entry::Command(Command::Mutator { mutator, request }), rest)
 }
@@ -278,9 +248,7 @@ pub fn close_spelled(rest: Rest<'_>) -> Option<Spelled<'_>>
     ensures value { option_and_then (λ found. entry_spelled found.0) result ≡ entry_from (Numbers 1 asks_close) (words_left rest.entry) }
     ensures lines { IfSome result (λ found. lines_left found.1 ≡ lines_after rest.entry) }
 {
-    let Some((mutator, rest)) = next_number_of(rest) else {
-        return None;
-    };
+    let (mutator, rest) = next_number_of(rest)?;
     let request = Request::Close;
     at_end(Entry::Command(Command::Mutator { mutator, request }), rest)
 }
@@ -289,12 +257,8 @@ fn where_spelled(rest: Rest<'_>) -> Option<Spelled<'_>>
     ensures value { option_and_then (λ found. entry_spelled found.0) result ≡ entry_from (Numbers 2 asks_where) (words_left rest.entry) }
     ensures lines { IfSome result (λ found. lines_left found.1 ≡ lines_after rest.entry) }
 {
-    let Some((mutator, rest)) = next_number_of(rest) else {
-        return None;
-    };
-    let Some((pointer, rest)) = next_number_of(rest) else {
-        return None;
-    };
+    let (mutator, rest) = next_number_of(rest)?;
+    let (pointer, rest) = next_number_of(rest)?;
     let request = Request::Where { pointer };
     at_end(Entry::Command(Command::Mutator { mutator, request }), rest)
 }
@@ -304,12 +268,8 @@ pub fn drop_spelled(rest: Rest<'_>) -> Option<Spelled<'_>>
     ensures value { option_and_then (λ found. entry_spelled found.0) result ≡ entry_from (Numbers 2 asks_drop) (words_left rest.entry) }
     ensures lines { IfSome result (λ found. lines_left found.1 ≡ lines_after rest.entry) }
 {
-    let Some((mutator, rest)) = next_number_of(rest) else {
-        return None;
-    };
-    let Some((pointer, rest)) = next_number_of(rest) else {
-        return None;
-    };
+    let (mutator, rest) = next_number_of(rest)?;
+    let (pointer, rest) = next_number_of(rest)?;
     let request = Request::Drop { pointer };
     at_end(Entry::Command(Command::Mutator { mutator, request }), rest)
 }
@@ -318,12 +278,8 @@ fn try_spelled(rest: Rest<'_>) -> Option<Spelled<'_>>
     ensures value { option_and_then (λ found. entry_spelled found.0) result ≡ entry_from (Numbers 2 asks_try) (words_left rest.entry) }
     ensures lines { IfSome result (λ found. lines_left found.1 ≡ lines_after rest.entry) }
 {
-    let Some((mutator, rest)) = next_number_of(rest) else {
-        return None;
-    };
-    let Some((pointer, rest)) = next_number_of(rest) else {
-        return None;
-    };
+    let (mutator, rest) = next_number_of(rest)?;
+    let (pointer, rest) = next_number_of(rest)?;
     let request = Request::Try { pointer };
     at_end(Entry::Command(Command::Mutator { mutator, request }), rest)
 }
@@ -333,12 +289,8 @@ pub fn view_spelled(rest: Rest<'_>) -> Option<Spelled<'_>>
     ensures value { option_and_then (λ found. entry_spelled found.0) result ≡ entry_from (Numbers 2 asks_view) (words_left rest.entry) }
     ensures lines { IfSome result (λ found. lines_left found.1 ≡ lines_after rest.entry) }
 {
-    let Some((mutator, rest)) = next_number_of(rest) else {
-        return None;
-    };
-    let Some((pointer, rest)) = next_number_of(rest) else {
-        return None;
-    };
+    let (mutator, rest) = next_number_of(rest)?;
+    let (pointer, rest) = next_number_of(rest)?;
     let request = Request::View { pointer };
     at_end(Entry::Command(Command::Mutator { mutator, request }), rest)
 }
@@ -347,9 +299,7 @@ fn epoch_spelled(rest: Rest<'_>) -> Option<Spelled<'_>>
     ensures value { option_and_then (λ found. entry_spelled found.0) result ≡ entry_from (Numbers 1 asks_epoch) (words_left rest.entry) }
     ensures lines { IfSome result (λ found. lines_left found.1 ≡ lines_after rest.entry) }
 {
-    let Some((mutator, rest)) = next_number_of(rest) else {
-        return None;
-    };
+    let (mutator, rest) = next_number_of(rest)?;
     let request = Request::Epoch;
     at_end(Entry::Command(Command::Mutator { mutator, request }), rest)
 }
@@ -358,9 +308,7 @@ fn log_spelled(rest: Rest<'_>) -> Option<Spelled<'_>>
     ensures value { option_and_then (λ found. entry_spelled found.0) result ≡ entry_from (Numbers 1 asks_log) (words_left rest.entry) }
     ensures lines { IfSome result (λ found. lines_left found.1 ≡ lines_after rest.entry) }
 {
-    let Some((log, rest)) = next_number_of(rest) else {
-        return None;
-    };
+    let (log, rest) = next_number_of(rest)?;
     at_end(Entry::Command(Command::Book(Inquiry::Log { log })), rest)
 }
 
@@ -397,12 +345,8 @@ fn policy_selected(policy: Policy, rest: Rest<'_>) -> Option<Spelled<'_>>
     ensures value { option_and_then (λ found. entry_spelled found.0) result ≡ perhaps 1 (asks_select (as_policy policy)) (words_left rest.entry) }
     ensures lines { IfSome result (λ found. lines_left found.1 ≡ lines_after rest.entry) }
 {
-    let Some((most, rest)) = next_number_of(rest) else {
-        return None;
-    };
-    let Some(most) = byte_of(most) else {
-        return None;
-    };
+    let (most, rest) = next_number_of(rest)?;
+    let most = byte_of(most)?;
     let choice = Choice::By(policy);
     let step = Step::Select { choice, most };
     at_end(Entry::Command(Command::Evacuator(step)), rest)
@@ -412,15 +356,9 @@ fn script_selected(rest: Rest<'_>) -> Option<Spelled<'_>>
     ensures value { option_and_then (λ found. entry_spelled found.0) result ≡ asks_script (words_left rest.entry) }
     ensures lines { IfSome result (λ found. lines_left found.1 ≡ lines_after rest.entry) }
 {
-    let Some((most, rest)) = next_number_of(rest) else {
-        return None;
-    };
-    let Some(most) = byte_of(most) else {
-        return None;
-    };
-    let Some((words, lines)) = last_words_of(rest) else {
-        return None;
-    };
+    let (most, rest) = next_number_of(rest)?;
+    let most = byte_of(most)?;
+    let (words, lines) = last_words_of(rest)?;
     let choice = Choice::Script(words);
     let step = Step::Select { choice, most };
     Some((Entry::Command(Command::Evacuator(step)), lines))
@@ -430,31 +368,20 @@ fn select_spelled(rest: Rest<'_>) -> Option<Spelled<'_>>
     ensures value { option_and_then (λ found. entry_spelled found.0) result ≡ word_then select_by (words_left rest.entry) }
     ensures lines { IfSome result (λ found. lines_left found.1 ≡ lines_after rest.entry) }
 {
-    let Some((word, rest)) = next_word_of(rest) else {
-        return None;
-    };
+    let (word, rest) = next_word_of(rest)?;
     if is_name(word, b"script") {
         return script_selected(rest);
     }
-    let Some(policy) = policy_named(word) else {
-        return None;
-    };
-    policy_selected(policy, rest)
+    policy_selected(policy_named(word)?, rest)
 }
 
 fn round_made(policy: Policy, rest: Rest<'_>) -> Option<Spelled<'_>>
     ensures value { option_and_then (λ found. entry_spelled found.0) result ≡ perhaps 2 (asks_round (as_policy policy)) (words_left rest.entry) }
     ensures lines { IfSome result (λ found. lines_left found.1 ≡ lines_after rest.entry) }
 {
-    let Some((most, rest)) = next_number_of(rest) else {
-        return None;
-    };
-    let Some((turns, rest)) = next_number_of(rest) else {
-        return None;
-    };
-    let Some(most) = byte_of(most) else {
-        return None;
-    };
+    let (most, rest) = next_number_of(rest)?;
+    let (turns, rest) = next_number_of(rest)?;
+    let most = byte_of(most)?;
     let step = Step::Round {
         policy,
         most,
@@ -467,22 +394,15 @@ fn round_spelled(rest: Rest<'_>) -> Option<Spelled<'_>>
     ensures value { option_and_then (λ found. entry_spelled found.0) result ≡ word_then round_by (words_left rest.entry) }
     ensures lines { IfSome result (λ found. lines_left found.1 ≡ lines_after rest.entry) }
 {
-    let Some((word, rest)) = next_word_of(rest) else {
-        return None;
-    };
-    match policy_named(word) {
-        Some(policy) => round_made(policy, rest),
-        None => None,
-    }
+    let (word, rest) = next_word_of(rest)?;
+    round_made(policy_named(word)?, rest)
 }
 
 fn mark_spelled(rest: Rest<'_>) -> Option<Spelled<'_>>
     ensures value { option_and_then (λ found. entry_spelled found.0) result ≡ entry_from (Numbers 1 asks_mark) (words_left rest.entry) }
     ensures lines { IfSome result (λ found. lines_left found.1 ≡ lines_after rest.entry) }
 {
-    let Some((count, rest)) = next_number_of(rest) else {
-        return None;
-    };
+    let (count, rest) = next_number_of(rest)?;
     at_end(
         Entry::Command(Command::Evacuator(Step::Mark { count })),
         rest,
@@ -493,9 +413,7 @@ fn evacuate_spelled(rest: Rest<'_>) -> Option<Spelled<'_>>
     ensures value { option_and_then (λ found. entry_spelled found.0) result ≡ entry_from (Numbers 1 asks_evacuate) (words_left rest.entry) }
     ensures lines { IfSome result (λ found. lines_left found.1 ≡ lines_after rest.entry) }
 {
-    let Some((count, rest)) = next_number_of(rest) else {
-        return None;
-    };
+    let (count, rest) = next_number_of(rest)?;
     let step = Step::Evacuate { count };
     at_end(Entry::Command(Command::Evacuator(step)), rest)
 }
@@ -519,9 +437,7 @@ fn flaw_spelled(flaw: Flaw, rest: Rest<'_>) -> Option<Spelled<'_>>
     ensures value { option_and_then (λ found. entry_spelled found.0) result ≡ perhaps 1 (says_device (as_flaw flaw)) (words_left rest.entry) }
     ensures lines { IfSome result (λ found. lines_left found.1 ≡ lines_after rest.entry) }
 {
-    let Some((call, rest)) = next_number_of(rest) else {
-        return None;
-    };
+    let (call, rest) = next_number_of(rest)?;
     at_end(Entry::Device(Device { flaw, call }), rest)
 }
 
@@ -529,13 +445,8 @@ fn device_spelled(rest: Rest<'_>) -> Option<Spelled<'_>>
     ensures value { option_and_then (λ found. entry_spelled found.0) result ≡ word_then device_by (words_left rest.entry) }
     ensures lines { IfSome result (λ found. lines_left found.1 ≡ lines_after rest.entry) }
 {
-    let Some((word, rest)) = next_word_of(rest) else {
-        return None;
-    };
-    let Some(flaw) = flaw_named(word) else {
-        return None;
-    };
-    flaw_spelled(flaw, rest)
+    let (word, rest) = next_word_of(rest)?;
+    flaw_spelled(flaw_named(word)?, rest)
 }
 
 // The step of this name, by the words after it. It stands apart, so that no other line pays for it.

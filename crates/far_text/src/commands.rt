@@ -50,10 +50,7 @@ fn write_record(
     ensures fault { IfErr result (λ _. bytes.new ≡ bytes.old) }
 {
     let start = bytes.len() as u32;
-    let Ok(known) = bytes.add(word) else {
-        return Err(AllocError);
-    };
-    if !known {
+    if !bytes.add(word)? {
         return Ok(None);
     }
     let count = bytes.len() as u32 - start;
@@ -273,13 +270,8 @@ impl Commands {
         ensures value { IfOk result (λ kept. option_map (λ c. self.old ++ c ∷ []) (command_spelled command.entry) ≡ cond kept (Some self.new) None) }
         ensures same { result ≢ Ok true → self.new ≡ self.old }
     {
-        let Ok(()) = self.records.reserve(1) else {
-            return Err(AllocError);
-        };
-        let Ok(kept) = record_of(&mut self.bytes, command) else {
-            return Err(AllocError);
-        };
-        let Some(record) = kept else {
+        self.records.reserve(1)?;
+        let Some(record) = record_of(&mut self.bytes, command)? else {
             return Ok(false);
         };
         self.records.push_reserved(record);
@@ -298,13 +290,8 @@ impl Commands {
         let Command::Mutator { mutator, request } = command else {
             return self.push_rarer(command);
         };
-        let Ok(()) = self.records.reserve(1) else {
-            return Err(AllocError);
-        };
-        let Ok(kept) = request_record(&mut self.bytes, mutator, request) else {
-            return Err(AllocError);
-        };
-        let Some(record) = kept else {
+        self.records.reserve(1)?;
+        let Some(record) = request_record(&mut self.bytes, mutator, request)? else {
             return Ok(false);
         };
         self.records.push_reserved(record);

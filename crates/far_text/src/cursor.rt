@@ -97,9 +97,7 @@ fn printed_number(text: &[u8], len: usize, n: u64) -> Option<(u64, Rest<'_>)>
     if len > 1 && text[0] == b'0' {
         return None;
     }
-    let Some(rest) = rest_at(text, len) else {
-        return None;
-    };
+    let rest = rest_at(text, len)?;
     Some((n, rest))
 }
 
@@ -196,9 +194,7 @@ pub fn number_first(text: &[u8]) -> Option<(u64, Rest<'_>)>
     if len < 20 {
         return printed_number(text, len, n);
     }
-    let Some(n) = long_number(&text[..len]) else {
-        return None;
-    };
+    let n = long_number(&text[..len])?;
     printed_number(text, len, n)
 }
 

@@ -40,11 +40,7 @@ pub fn pair(high: u8, low: u8) -> Option<u8>
     ensures some { IfSome result (λ byte. (at : ℕ) → pair_value high low at ≡ Ok byte) }
     ensures none { IfNone result ((at : ℕ) → IsErr (pair_value high low at)) }
 {
-    let Some(high) = digit(high) else {
-        return None;
-    };
-    let Some(low) = digit(low) else {
-        return None;
-    };
+    let high = digit(high)?;
+    let low = digit(low)?;
     Some(high * 16 + low)
 }

@@ -61,9 +61,7 @@ fn fill(buffer: &mut Vec<u8>, to: usize) -> Result<(), AllocError>
     if to + STEP >= END {
         return Err(AllocError);
     }
-    let Ok(()) = buffer.reserve(CAPACITY.saturating_sub(buffer.len())) else {
-        return Err(AllocError);
-    };
+    buffer.reserve(CAPACITY.saturating_sub(buffer.len()))?;
     buffer.resize(to + STEP, 0)
 }
 
@@ -77,7 +75,7 @@ fn make_room(buffer: &mut Vec<u8>, to: usize) -> Result<(), AllocError>
     ensures fault { IfErr result (λ _. buffer.new.items ≡ buffer.old.items) }
 {
     if to > buffer.len() {
-        return fill(buffer, to);
+        fill(buffer, to)?;
     }
     Ok(())
 }

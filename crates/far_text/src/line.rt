@@ -68,12 +68,8 @@ pub fn comment_first(text: &[u8]) -> Option<(Line<'_>, Option<&[u8]>)>
     ensures line { IfSome result (λ found. as_line found.0 ≡ line_of (first_line text.now)) }
     ensures lines { IfSome result (λ found. lines_left found.1 ≡ lines_after_first text.now) }
 {
-    let Some(len) = ascii_len(text) else {
-        return None;
-    };
-    let Some(after) = comment_ends(text, len) else {
-        return None;
-    };
+    let len = ascii_len(text)?;
+    let after = comment_ends(text, len)?;
     Some((Line::Skipped, after))
 }
 

@@ -41,9 +41,7 @@ fn split_after(
     ensures lines { IfOk result (λ split. split_commands mutators (number + 1) (lines_left lines.entry) ≡ Ok split) }
     ensures fault { IfErr result (λ e. IsFault e (split_commands mutators (number + 1) (lines_left lines.entry))) }
 {
-    let Ok(mut split) = SplitText::new(alloc) else {
-        return Err(ParseError::Memory);
-    };
+    let mut split = SplitText::new(alloc)?;
     let mut number = number;
     let mut lines = lines;
     while let Some(text) = lines {
@@ -55,10 +53,7 @@ fn split_after(
             let Entry::Command(command) = entry else {
                 return Err(ParseError::Syntax(number));
             };
-            let Ok(kept) = split.push(mutators, number as u32, command) else {
-                return Err(ParseError::Memory);
-            };
-            if !kept {
+            if !split.push(mutators, number as u32, command)? {
                 return Err(ParseError::Syntax(number));
             }
         }

@@ -60,11 +60,10 @@ impl SplitText {
     pub(crate) fn new(alloc: Global) -> Result<SplitText, AllocError>
         ensures { IfOk result (λ text. text ≡ []) }
     {
-        let Ok(commands) = Commands::new(alloc) else {
-            return Err(AllocError);
-        };
-        let numbers = Vec::new(alloc);
-        Ok(SplitText { commands, numbers })
+        Ok(SplitText {
+            commands: Commands::new(alloc)?,
+            numbers: Vec::new(alloc),
+        })
     }
 
     /// How many they are.
@@ -98,9 +97,7 @@ impl SplitText {
         if !has_thread(mutators, command) {
             return Ok(false);
         }
-        let Ok(()) = self.numbers.push(number) else {
-            return Err(AllocError);
-        };
+        self.numbers.push(number)?;
         match self.commands.push(command) {
             Ok(true) => Ok(true),
             other => {
@@ -118,9 +115,7 @@ impl SplitText {
         for place in 0..self.len() {
             let (_, command) = self.at(place);
             if thread.runs(command) {
-                let Ok(()) = places.push(place as u32) else {
-                    return Err(AllocError);
-                };
+                places.push(place as u32)?;
             }
         }
         Ok(Lines { text: self, places })

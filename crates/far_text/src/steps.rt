@@ -49,9 +49,7 @@ fn add_each_log(bytes: &mut HexBytes, words: &[u8]) -> Result<bool, AllocError>
         if log >= LOG_NAMES || bytes.len() == most {
             return Ok(false);
         }
-        let Ok(()) = bytes.push(log as u8) else {
-            return Err(AllocError);
-        };
+        bytes.push(log as u8)?;
         rest = after;
     }
     Ok(true)
@@ -87,10 +85,7 @@ fn script_record(
     ensures fault { IfErr result (λ _. bytes.new ≡ bytes.old) }
 {
     let start = bytes.len() as u32;
-    let Ok(known) = add_logs(bytes, words) else {
-        return Err(AllocError);
-    };
-    if !known {
+    if !add_logs(bytes, words)? {
         return Ok(None);
     }
     let count = bytes.len() as u32 - start;

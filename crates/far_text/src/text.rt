@@ -180,17 +180,12 @@ fn commands_after(alloc: Global, number: u64, lines: Option<&[u8]>) -> Result<Co
     ensures commands { IfOk result (λ commands. read_commands (number + 1) (lines_left lines.entry) ≡ Ok commands) }
     ensures fault { IfErr result (λ e. IsFault e (read_commands (number + 1) (lines_left lines.entry))) }
 {
-    let Ok(mut commands) = Commands::new(alloc) else {
-        return Err(ParseError::Memory);
-    };
+    let mut commands = Commands::new(alloc)?;
     let mut number = number;
     let mut lines = lines;
     while let Some(text) = lines {
         number += 1;
-        let Ok(added) = add_line(&mut commands, text) else {
-            return Err(ParseError::Memory);
-        };
-        let Some(after) = added else {
+        let Some(after) = add_line(&mut commands, text)? else {
             return Err(ParseError::Syntax(number));
         };
         lines = after;

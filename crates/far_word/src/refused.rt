@@ -3,29 +3,46 @@
 ghost use Rattle.std.specs.Prelude.{◌≡◌};
 ghost use Rattle.far_word.specs.Refused.{refusal_number};
 
-use std::fmt;
 use thiserror::Error;
 
 /// Why a call was refused. Each refusal has its number, and its cause alone.
 #[derive(Clone, Copy, Debug, PartialEq, Eq, Error)]
 pub enum Refused {
+    #[error("out of memory")]
     Memory,
+    #[error("no log has room")]
     NoRoom,
+    #[error("all pointer cells of the mutator are used")]
     NoPointer,
+    #[error("an object's length is 1 to 4088 bytes")]
     Length,
+    #[error("the scope is closed")]
     Closed,
+    #[error("the scope is open")]
     AlreadyOpen,
+    #[error("the pointer is not held")]
     NotHeld,
+    #[error("out of range")]
     Range,
+    #[error("the scope views the object")]
     Held,
+    #[error("the device failed")]
     Device,
+    #[error("the device gave bytes of another length")]
     Damaged,
+    #[error("the call does not belong to the phase")]
     Phase,
+    #[error("no epoch is left")]
     EpochsSpent,
+    #[error("the pointer word is {0:016x}")]
     Marked(u64),
+    #[error("logs, mutators or first epoch out of range")]
     Shape,
+    #[error("line {0} is off the grammar")]
     Syntax(u64),
+    #[error("log {0} may not be chosen")]
     BadChoice(u8),
+    #[error("mutator {0} has been open since epoch {1}")]
     StillOpen(u8, u64),
 }
 
@@ -53,44 +70,6 @@ impl Refused {
             Refused::Syntax(_) => 16,
             Refused::BadChoice(_) => 17,
             Refused::StillOpen(_, _) => 18,
-        }
-    }
-}
-
-/// What a refusal says that has no operands; nothing for one that has some.
-fn text(refused: Refused) -> &'static str {
-    match refused {
-        Refused::Memory => "out of memory",
-        Refused::NoRoom => "no log has room",
-        Refused::NoPointer => "all pointer cells of the mutator are used",
-        Refused::Length => "an object's length is 1 to 4088 bytes",
-        Refused::Closed => "the scope is closed",
-        Refused::AlreadyOpen => "the scope is open",
-        Refused::NotHeld => "the pointer is not held",
-        Refused::Range => "out of range",
-        Refused::Held => "the scope views the object",
-        Refused::Device => "the device failed",
-        Refused::Damaged => "the device gave bytes of another length",
-        Refused::Phase => "the call does not belong to the phase",
-        Refused::EpochsSpent => "no epoch is left",
-        Refused::Shape => "logs, mutators or first epoch out of range",
-        Refused::Marked(_)
-        | Refused::Syntax(_)
-        | Refused::BadChoice(_)
-        | Refused::StillOpen(_, _) => "",
-    }
-}
-
-impl fmt::Display for Refused {
-    fn fmt<W: fmt::Write>(&self, f: &mut fmt::Formatter<W>) -> fmt::Result {
-        match self {
-            Refused::Marked(word) => write!(f, "the pointer word is {word:016x}"),
-            Refused::Syntax(line) => write!(f, "line {line} is off the grammar"),
-            Refused::BadChoice(log) => write!(f, "log {log} may not be chosen"),
-            Refused::StillOpen(mutator, epoch) => {
-                write!(f, "mutator {mutator} has been open since epoch {epoch}")
-            }
-            _ => f.write_str(text(*self)),
         }
     }
 }

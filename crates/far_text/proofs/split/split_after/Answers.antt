@@ -31,8 +31,8 @@ push-requires c =
     let fewer = fewer_lines c.in-Some.text.now (lines_left c.in-Some-line_first.after) c.in-Some-line_first.ensures.lines in
     omega (arith, c.loop-lines.invariant.few)
 
-pub returns-then-not-kept-clause-fault : goal.returns-then-not-kept-clause-fault
-returns-then-not-kept-clause-fault c =
+pub returns-then-not-branch-clause-fault : goal.returns-then-not-branch-clause-fault
+returns-then-not-branch-clause-fault c =
     let old = c.loop-lines.split in
     let number = c.loop-lines.number + 1 in
     let spelled = command_spelled c.in-Command.command in
@@ -40,7 +40,7 @@ returns-then-not-kept-clause-fault c =
     let entry = rw c.in-Said.is at c.in-Some-line_first.ensures.line in
     let line = rw c.in-Command.is at entry in
     let none : option_map (λ x. old ++ (number, x) ∷ []) (option_and_then (threaded c.args.mutators) spelled) ≡ None =
-    c.in-Ok-push.ensures ∙ ap (λ kept. cond kept (Some c.push.new.self) None) c.if-not-kept.true in
+    c.in_ok-push.ensures ∙ ap (λ kept. cond kept (Some c.push.new.self) None) c.if-not-branch.true in
     sym reads ∙ ap (onto_all_lines old)
     (after_split c.args.mutators number c.in-Some.text.now (saying (option_map CommandLine spelled)) (lines_left c.in-Some-line_first.after) line c.in-Some-line_first.ensures.lines
     ∙ none_split c.args.mutators number old spelled none _)
@@ -51,8 +51,8 @@ loop-lines-smaller c =
     let less : length (lines_left c.in-Some-line_first.after) < length (lines_of c.in-Some.text.now) = omega arith in
     subst (λ o. length (lines_left c.in-Some-line_first.after) < length (lines_left o)) (sym c.in-Some.is) less
 
-pub loop-lines-smaller-else-not-kept : goal.loop-lines-smaller-else-not-kept
-loop-lines-smaller-else-not-kept c =
+pub loop-lines-smaller-else-not-branch : goal.loop-lines-smaller-else-not-branch
+loop-lines-smaller-else-not-branch c =
     let fewer = fewer_lines c.in-Some.text.now (lines_left c.in-Some-line_first.after) c.in-Some-line_first.ensures.lines in
     let less : length (lines_left c.in-Some-line_first.after) < length (lines_of c.in-Some.text.now) = omega arith in
     subst (λ o. length (lines_left c.in-Some-line_first.after) < length (lines_left o)) (sym c.in-Some.is) less
@@ -73,8 +73,8 @@ loop-lines-preserved c =
       few = omega arith;
     }
 
-pub loop-lines-preserved-else-not-kept : goal.loop-lines-preserved-else-not-kept
-loop-lines-preserved-else-not-kept c =
+pub loop-lines-preserved-else-not-branch : goal.loop-lines-preserved-else-not-branch
+loop-lines-preserved-else-not-branch c =
     let text = c.in-Some.text.now in
     let after = lines_left c.in-Some-line_first.after in
     let mutators = c.args.mutators in
@@ -89,7 +89,7 @@ loop-lines-preserved-else-not-kept c =
     let line = rw c.in-Command.is at entry in
     let fewer = fewer_lines text after c.in-Some-line_first.ensures.lines in
     let kept : option_map (λ x. old ++ (number, x) ∷ []) (option_and_then (threaded mutators) spelled) ≡ Some new =
-    c.in-Ok-push.ensures ∙ ap (λ kept. cond kept (Some new) None) c.if-not-kept.false in
+    c.in_ok-push.ensures ∙ ap (λ kept. cond kept (Some new) None) c.if-not-branch.false in
     let long = one_line_more mutators number old new (option_and_then (threaded mutators) spelled) kept in
     let one = after_split mutators number text (saying (option_map CommandLine spelled)) after line c.in-Some-line_first.ensures.lines in
     record {

@@ -10,18 +10,18 @@ add_line-requires c =
     let fewer = fewer_lines c.in-Some.text.now (lines_after_first c.in-Some.text.now) refl in
     omega (arith, c.loop-lines.invariant.few)
 
-pub returns-in_default-added-clause-fault : goal.returns-in_default-added-clause-fault
-returns-in_default-added-clause-fault c =
+pub returns-in_default-2-clause-fault : goal.returns-in_default-2-clause-fault
+returns-in_default-2-clause-fault c =
     let text = c.in-Some.text.now in
     let old = c.loop-lines.commands in
     let reads = rw c.in-Some.is at c.loop-lines.invariant.reads in
-    let bad = rw c.in_default-added.is at c.in-Ok-add_line.ensures.bad in
+    let bad = rw c.in_default-2.is at c.in_ok-after.ensures.bad in
     sym reads ∙ ap (onto_all old) (after_line (c.loop-lines.number + 1) text (line_of (first_line text)) (lines_after_first text) refl refl ∙ line_refused old (line_of (first_line text)) bad _ _)
 
 pub loop-lines-smaller : goal.loop-lines-smaller
 loop-lines-smaller c =
-    let after = lines_left c.in-Some-added.after in
-    let lines = rw c.in-Some-added.is at c.in-Ok-add_line.ensures.lines in
+    let after = lines_left c.in-Some-2.after in
+    let lines = rw c.in-Some-2.is at c.in_ok-after.ensures.lines in
     let fewer = fewer_lines c.in-Some.text.now after lines in
     let less : length after < length (lines_of c.in-Some.text.now) = omega arith in
     subst (λ o. length after < length (lines_left o)) (sym c.in-Some.is) less
@@ -30,15 +30,15 @@ pub loop-lines-preserved : goal.loop-lines-preserved
 loop-lines-preserved c =
     let text = c.in-Some.text.now in
     let line = line_of (first_line text) in
-    let after = lines_left c.in-Some-added.after in
+    let after = lines_left c.in-Some-2.after in
     let number = c.loop-lines.number in
     let old = c.loop-lines.commands in
     let new = c.add_line.new.commands in
     let reads = rw c.in-Some.is at c.loop-lines.invariant.reads in
     let counted = rw c.in-Some.is at c.loop-lines.invariant.counted in
     let few = c.loop-lines.invariant.few in
-    let added = rw c.in-Some-added.is at c.in-Ok-add_line.ensures.added in
-    let lines = rw c.in-Some-added.is at c.in-Ok-add_line.ensures.lines in
+    let added = rw c.in-Some-2.is at c.in_ok-after.ensures.added in
+    let lines = rw c.in-Some-2.is at c.in_ok-after.ensures.lines in
     let fewer = fewer_lines text after lines in
     let long = no_longer old new line added in
     record {

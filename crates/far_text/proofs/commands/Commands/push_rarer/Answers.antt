@@ -10,16 +10,16 @@ invariant_of-self-2 c =
     let old = c.self.inside.bytes in
     let new = c.record_of.new.bytes in
     let records = c.self.inside.records.items in
-    let within = rw c.in-Some.is at c.in-Ok-record_of.ensures.within in
-    let items = c.push_reserved.ensures.items ∙ ap (λ all. all ++ c.in-Some.record ∷ []) c.in-Ok.ensures.items in
-    rw items (one_within_more (length old) (length new) (longer old new c.in-Ok-record_of.ensures.kept) records c.in-Some.record c.self.invariant within)
+    let within = rw c.in-Some.is at c.in_ok-record.ensures.within in
+    let items = c.push_reserved.ensures.items ∙ ap (λ all. all ++ c.in-Some.record ∷ []) c.in_ok-reserve.ensures.items in
+    rw items (one_within_more (length old) (length new) (longer old new c.in_ok-record.ensures.kept) records c.in-Some.record c.self.invariant within)
 
 pub returns-clause-value : goal.returns-clause-value
 returns-clause-value c =
     let old = c.self.inside.bytes in
     let new = c.record_of.new.bytes in
     let records = c.self.inside.records.items in
-    let value = rw c.in-Some.is at c.in-Ok-record_of.ensures.value in
+    let value = rw c.in-Some.is at c.in_ok-record.ensures.value in
     ap (λ now. option_map (λ x. now ++ x ∷ []) (command_spelled c.args.command)) (sym c.self.view_is)
-    ∙ one_command_more old new c.in-Ok-record_of.ensures.kept records c.in-Some.record (command_spelled c.args.command) c.self.invariant value
-    ∙ ap (λ all. Some (map (command_in new) all)) (sym (c.push_reserved.ensures.items ∙ ap (λ all. all ++ c.in-Some.record ∷ []) c.in-Ok.ensures.items))
+    ∙ one_command_more old new c.in_ok-record.ensures.kept records c.in-Some.record (command_spelled c.args.command) c.self.invariant value
+    ∙ ap (λ all. Some (map (command_in new) all)) (sym (c.push_reserved.ensures.items ∙ ap (λ all. all ++ c.in-Some.record ∷ []) c.in_ok-reserve.ensures.items))

@@ -18,7 +18,7 @@ invariant_of-self-then-push c =
     let new = c.push-2.new.self in
     let kept = c.in-Ok-true.ensures.value ∙ ap (λ b. cond b (Some new) None) c.in-Ok-true.field-0-test in
     let long = one_longer t.commands new (command_spelled c.args.command) kept in
-    let numbers = ap length c.in-Ok.ensures.items ∙ length-append t.numbers.items (c.args.number ∷ []) in
+    let numbers = ap length c.in_ok-push.ensures.items ∙ length-append t.numbers.items (c.args.number ∷ []) in
     let old = ap length c.self.view_is in
     let beside = length_beside t.numbers.items t.commands c.self.invariant.0 in
     (omega (arith, c.self.invariant.0), omega (arith, c.requires))
@@ -33,4 +33,4 @@ returns-in-Ok-true c =
     let has = sym c.has_thread.ensures ∙ c.if-not-has_thread.false in
     ap (option_map (λ x. all ++ (c.args.number, x) ∷ [])) (threaded_spelled c.args.mutators c.args.command ∙ ap (λ b. cond b spelled None) has)
     ∙ kept_beside t.numbers.items t.commands new c.args.number all spelled c.self.view_is c.self.invariant.0 kept
-    ∙ ap (λ ns. Some (zip ns new)) (sym c.in-Ok.ensures.items)
+    ∙ ap (λ ns. Some (zip ns new)) (sym c.in_ok-push.ensures.items)
