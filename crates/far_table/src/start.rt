@@ -226,7 +226,7 @@ fn seats_of<D: Device>(
 }
 
 /// Makes the shared table of a core's words, with the core's views as the seats': scopes that are open, places that are held,
-/// objects that are used, near or far, the round under way, jobs and what copiers have of them. The book's seat, the owners' by
+/// objects that are used, near or far, the round under way, jobs and what copiers have of them (but a job that a copier has taken nobody can finish). The book's seat, the owners' by
 /// number, and the eight copiers' by number. The table is as large as the core's logs ask. All room that a seat ever needs is taken here. The rule is honest where the device
 /// is; where some cell is in use that has to be the core's own honesty.
 ///

@@ -24,7 +24,7 @@ lowest true (l ∷ k ∷ ls) = Some record { log = l; at = 0 }
 lowest false (l ∷ ls) = Some record { log = l; at = 0 }
 
 -- where a span of this many words goes: to the end of the open log, if it fits there; else to the start of the lowest
--- free log. A new object and a fetch keep the reserve: they leave the last free log to a move
+-- free log. A new object and a fetch keep the reserve: they leave the last free log to a move and to the offer of a copy
 abbrev pub room : State → ℕ → Bool → Option Place
 room s size reserve =
     if nat_le (s.tail s.current + size) LOG_WORDS then Some record { log = s.current; at = s.tail s.current } else lowest reserve (free_logs s)

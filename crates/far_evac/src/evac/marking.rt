@@ -138,7 +138,7 @@ impl<N: Near + Drop, D: Device + Drop> Evac<N, D> {
 
     /// Gives the round up: the live objects of the collection set lose EVAC, no object has moved, and no round is running.
     /// Those logs stand where they stood in the order of sealing. A job that is found offered is taken back first; one that a copier has taken or
-    /// finished is void from then on.
+    /// finished is void from then on. The spans of all these copies are dead; the last free log may be among those that they took.
     ///
     /// Refused [`Refused::Phase`] exactly where no round is running; nothing has changed then.
     pub fn abort(&mut self) -> Result<(), Refused>

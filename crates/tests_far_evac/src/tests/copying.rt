@@ -1,4 +1,4 @@
-//! A copier acts in the midst of a round: before one call of the book's hand, each in its turn, it claims the job that is offered.
+//! A copier claims the offered job before the k-th call of the book's hand, for each k in a run of its own.
 
 ghost use Rattle.std.specs.Prelude.{◌≡◌};
 

@@ -80,7 +80,7 @@ fn in_a_scope<K: HeapName, R: Wait>(
 }
 
 // page
-// A round of at most two logs. It is given up after a thousand turns: then another scope stayed open.
+// A round of at most two logs. It is given up after a thousand turns: then another scope stayed open, or a copy wasn't made.
 fn make_room<K: HeapName, R: Wait>(rt: &R, heap: &Heap<K, MemDevice>) -> Result<(), Refused> {
     match heap.run_round(rt, &mut LeastLive, 2, 1000) {
         Ok(RoundEnd::Limit(_)) => heap.book(rt).abort(),
