@@ -1,6 +1,6 @@
 // Preloaded into a program, makes its call number FAIL_CALL of those that read or write at a position fail (counted from 1; 0 or no such variable: none), by EIO,
-// or where FAIL_SHORT is set do half of what was asked. Where FAIL_FLIP is set each such read gives another first byte. From thread number FAIL_THREAD on none can
-// be made.
+// or where FAIL_SHORT is set do half of what was asked. Byte number FAIL_FLIP of what each such read gives is another, counted so too. From thread number
+// FAIL_THREAD on none can be made.
 //
 //   cc -O2 -shared -fPIC -o fail_file.so fail_file.c -ldl
 #define _GNU_SOURCE
@@ -12,9 +12,15 @@
 
 static long count, threads;
 
+// What a variable says; 0 without it.
+static long number(const char *name) {
+    const char *said = getenv(name);
+    return said ? atol(said) : 0;
+}
+
 // Whether the call that is counted here has reached the number of a variable: -1 not yet, 0 now, 1 before; -1 without the variable.
 static int reached(long *counted, const char *name) {
-    long now = __atomic_add_fetch(counted, 1, __ATOMIC_SEQ_CST), at = getenv(name) ? atol(getenv(name)) : 0;
+    long now = __atomic_add_fetch(counted, 1, __ATOMIC_SEQ_CST), at = number(name);
     return at == 0 || now < at ? -1 : now > at;
 }
 
@@ -27,7 +33,8 @@ static ssize_t asked(size_t size) {
 }
 
 static ssize_t was_read(void *at, ssize_t size) {
-    if (size > 0 && getenv("FAIL_FLIP")) *(char *)at = (char)~*(char *)at;
+    long flipped = number("FAIL_FLIP");
+    if (0 < flipped && flipped <= size) ((char *)at)[flipped - 1] ^= (char)0xff;
     return size;
 }
 

@@ -4,8 +4,8 @@ one that can't be opened; and where threads can't be made.
 
 usage: fail_file.py PROGRAM
 A run must end with every value right and status 0; or say why it stopped, with status 4, and nothing on standard output. Both must come. A read or a write that
-does half of what was asked is gone on with. Other bytes are counted, with status 1, as where nothing can be printed; of many operations oftener than there are
-records, since what is read at random is looked at too. A file in a folder that isn't there, or one that is there already, ends a run with status 3; the file of a
+does half of what was asked is gone on with. Other bytes are counted, with status 1, as where nothing can be printed; without operations too, whichever byte of an
+object it is, since all records are read at the end; of many operations oftener than there are records, since what is read at random is looked at too. A file in a folder that isn't there, or one that is there already, ends a run with status 3; the file of a
 run that is killed is gone. Without a thread for rounds no run begins; shards do without threads of their own. Prints only what is wrong.
 """
 import os
@@ -22,9 +22,13 @@ LIMITS = (0, 1, 100, 4_096, 4_200, 16_384, 200_400, 1_120_000, 1_300_123, 2_097_
 # Of the first calls each, and then some.
 CALLS = (*range(1, 33), *range(33, 1_000, 149), 1 << 40)
 ASKED = ("8", "2", "1000", "400", "1")
+# An object has 256 bytes, four records: the first byte, the last, and some between them.
+FLIPPED = (1, 64, 65, 130, 256)
+NONE = ("8", "2", "1000", "0", "1")
 MANY = ("8", "2", "1000", "40000", "1")
 WHOLE = "records 1000 operations 400 wrong 0\n"
 WRONG = r"records 1000 operations 400 wrong [1-9]\d*\n"
+NONE_WRONG = r"records 1000 operations 0 wrong [1-9]\d*\n"
 MANY_WRONG = r"records (\d+) operations 40000 wrong (\d+)\n"
 FULL = "the storage failed: there was no room for the bytes"
 FAILED = "the storage failed: the system failed"
@@ -79,6 +83,9 @@ def main() -> int:
             expect(f"call {nth} does half", is_whole(came), came)
         came = run(program, name, LD_PRELOAD=library, FAIL_FLIP="1")
         expect("other bytes", came[0] == 1 and came[2] == "" and re.fullmatch(WRONG, came[1]) is not None, came)
+        for byte in FLIPPED:
+            came = run(program, name, asked=NONE, LD_PRELOAD=library, FAIL_FLIP=str(byte))
+            expect(f"byte {byte} is another, read at the end", came[0] == 1 and came[2] == "" and re.fullmatch(NONE_WRONG, came[1]) is not None, came)
         came = run(program, name, asked=MANY, LD_PRELOAD=library, FAIL_FLIP="1")
         told = re.fullmatch(MANY_WRONG, came[1])
         expect("other bytes, read at random", came[0] == 1 and came[2] == "" and told is not None and int(told[2]) > int(told[1]), came)

@@ -63,8 +63,8 @@ for side in memory far.bin; do
     expect "$side, fewer records than shards" 0 'records 3 operations 90 wrong 0' '' "$side" 8 8 3 90 7
     # what outgrows the logs comes back from the far side, each time after it was sent there
     for asked in '2 1000 2001 7' '3 1000 2000 8'; do
-        "$program" "$side" 8 $asked tell >out
-        if ! grep -qE '^fetches [1-9][0-9]* evictions [1-9][0-9]* moves [0-9]+ rounds [1-9][0-9]* waits [0-9]+$' out ||
+        if ! timeout 60 "$program" "$side" 8 $asked tell >out ||
+            ! grep -qE '^fetches [1-9][0-9]* evictions [1-9][0-9]* moves [0-9]+ rounds [1-9][0-9]* waits [0-9]+$' out ||
             ! awk '$1 == "fetches" { exit !($2 <= $4) }' out || ! grep -qx "digest $(digest $asked)" out; then
             echo "store: $side $asked: $(cat out)" >&2
             wrong=1
@@ -80,6 +80,7 @@ for words in '' memory 'memory 8 2 500 2000' 'memory 7 2 500 2000 7' 'memory 65 
     'memory 8 2 0 2000 7' 'memory 8 2 2049 2000 7' 'memory 8 2 500 x 7' 'memory 8 2 500 2000 -7' 'memory 8 2 500 2000 7 told' 'memory 8 2 500 2000 7 tell 1'; do
     expect "'$words'" 2 '' "$usage" $words
 done
+expect 'no text' 2 '' "$usage" memory 8 2 500 2000 7 $'\xff'
 got=0
 "$program" memory 8 2 500 2000 7 >/dev/full 2>err || got=$?
 if [[ "$got" != 1 || -s err ]]; then

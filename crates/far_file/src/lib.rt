@@ -2,7 +2,8 @@
 //!
 //! [`Storage`] is what may be counted on of storage; [`MemStorage`] is one in memory, and std's `File` is one too, which [`NewFile`]
 //! makes. [`FileDevice`] is the device over any; [`SealedDevice`] keeps a [`Seal`] of each slot in memory besides, and never gives bytes
-//! that don't fit theirs. A [`LastFault`] tells why a device failed that another has, a heap for instance.
+//! that don't fit theirs. A [`LastFault`], which `last_fault` hands out, tells why a device failed, also if something else
+//! owns it by now, as a heap does.
 #![tactic(auto)]
 
 mod disk;

@@ -13,7 +13,7 @@ pub trait Seal: Drop {
     /// What a seal keeps.
     ghost kept: { Self → List ℕ };
 
-    /// Whether no two lists of bytes have the same kept of them.
+    /// Whether different bytes always have different digests.
     ghost exact: { Bool };
 
     /// A seal of these bytes; `None` if memory was refused.

@@ -11,7 +11,7 @@ same_counts : (a b : Counts) → a.fetches ≡ b.fetches → a.evictions ≡ b.e
 same_counts a b fetches evictions moves rounds waits = λ i. record { fetches = fetches i; evictions = evictions i; moves = moves i; rounds = rounds i; waits = waits i }
 
 -- a number of each, and of one more
-number_more : (of : Result Told StoreFault → ℕ) (shards : List (Result Told StoreFault)) (at one : ℕ) (other : Result Told StoreFault) → at < length shards → of (get_or shards at other) ≡ one
+pub number_more : (of : Result Told StoreFault → ℕ) (shards : List (Result Told StoreFault)) (at one : ℕ) (other : Result Told StoreFault) → at < length shards → of (get_or shards at other) ≡ one
     → told (told (sum_by of (take at shards)) + one) ≡ told (sum_by of (take (at + 1) shards))
 number_more of shards at one other lt is =
     let more : sum_by of (take (at + 1) shards) ≡ sum_by of (take at shards) + of (get_or shards at other) = sum_by_more of shards at other lt in

@@ -58,6 +58,15 @@ counts_told shards = record {
   waits = told (sum_by (λ (shard : Result Told StoreFault). (counts_by shard).waits) shards);
 }
 
+-- how many wrong values a shard told, if it was refused nothing
+abbrev pub wrong_by : Result Told StoreFault → ℕ
+wrong_by (Ok shard) = shard.wrong
+wrong_by (Err why) = 0
+
+-- how many these shards told together
+abbrev pub wrong_told : List (Result Told StoreFault) → ℕ
+wrong_told shards = told (sum_by (λ (shard : Result Told StoreFault). wrong_by shard) shards)
+
 -- ---- worked: two turns, the second the round's last
 abbrev pub first_turn : Progress
 first_turn = record { moved = 3; far = 20; dropped = 100; freed = 1000; done = false }

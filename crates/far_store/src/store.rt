@@ -3,7 +3,7 @@
 ghost use Rattle.std.specs.Prelude.{◌≡◌, ◌↔◌, ◌⊎◌, ◌≤◌, ◌<◌, ◌+◌, ◌*◌, ℕ, min, true, List, map, sum, Ok, Err, Contains, IfOk, IfErr};
 ghost use Rattle.std.specs.Vec.{vec_len};
 ghost use Rattle.far_evac.specs.declared.answers.Progress.{Progress as progress};
-ghost use Rattle.far_store.specs.Counting.{counted_with, counts_told, told};
+ghost use Rattle.far_store.specs.Counting.{counted_with, counts_told, told, wrong_told};
 ghost use Rattle.far_store.specs.Kept.{AreMade, AreRead, AreRight, IsMade, IsRead, IsRight, sum_over};
 ghost use Rattle.far_store.specs.Part.{AreEven, AreParts, IsEvenShare, IsPart, sharers};
 ghost use Rattle.far_store.specs.declared.desk.Told.{Told as any_told};
@@ -135,6 +135,7 @@ fn sum_of(shards: &[Result<Told, StoreFault>]) -> Result<Told, StoreFault>
     ensures right { AreRight shards.now → IsRight result }
     ensures made { (due : List ℕ) → AreMade due shards.now → IsMade (told (sum due)) result }
     ensures records { (due : List ℕ) → AreRead due shards.now → IsRead (told (sum due)) result }
+    ensures wrong { IfOk result (λ told. told.wrong ≡ wrong_told shards.now) }
     ensures counts { IfOk result (λ told. told.counts ≡ counts_told shards.now) }
     ensures refused { IfErr result (λ why. Contains shards.now (Err why)) }
 {
@@ -171,6 +172,7 @@ fn ended(
     ensures right { IfOk worked (λ shards. AreRight shards.items) → IsRight result }
     ensures made { (due : List ℕ) → IfOk worked (λ shards. AreMade due shards.items) → IsMade (told (sum due)) result }
     ensures records { (due : List ℕ) → IfOk worked (λ shards. AreRead due shards.items) → IsRead (told (sum due)) result }
+    ensures wrong { IfOk result (λ told. IfOk worked (λ shards. told.wrong ≡ wrong_told shards.items)) }
     ensures counts { IfOk result (λ told. IfOk worked (λ shards. told.counts ≡ counted_with (counts_told shards.items) counts)) }
     ensures round { IfErr kept (λ fault. result ≡ Err (RunFault.Round fault)) }
 {

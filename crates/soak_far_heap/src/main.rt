@@ -48,8 +48,7 @@ struct Asked {
     logs: u64,
     /// If that was said.
     copiers: Option<u8>,
-    /// If the word is one of a device.
-    far_side: Option<FarSide>,
+    far_side: FarSide,
 }
 
 impl Asked {
@@ -63,7 +62,7 @@ impl Asked {
 
     // Whether the device fails at times.
     fn fails(self) -> bool {
-        matches!(self.far_side, Some(FarSide::Faulty))
+        matches!(self.far_side, FarSide::Faulty)
     }
 }
 
@@ -115,7 +114,8 @@ fn work_beside<K: HeapName + Send + Sync, D: Device + Drop + Send, R: Threads + 
         written
     };
     let rounds = || make_rounds(rt, heap, gate, asked);
-    let (written, mut counts) = thread::join(rt, writers, rounds);
+    // Where no thread can be made rounds are run last, when all writers have ended.
+    let (mut counts, written) = thread::join(rt, rounds, writers);
     match written {
         Ok(writers) => {
             judge(rt, heap, writers, &mut counts);
@@ -228,7 +228,7 @@ fn soak_over<R: Files<File = File> + Threads + Wait + Sync>(
     copiers: u8,
     asked: Asked,
 ) -> Option<Counts> {
-    match asked.far_side? {
+    match asked.far_side {
         FarSide::Memory => soak(rt, alloc, MemDevice::new(alloc), copiers, asked),
         FarSide::Disk => soak(rt, alloc, on_disk(rt, alloc)?, copiers, asked),
         FarSide::Faulty => {
@@ -252,21 +252,32 @@ fn soak_each<R: Files<File = File> + Threads + Wait + Sync>(
     Some(all)
 }
 
-// A number among the words; 0 where the word is none.
-fn number(words: &[String], at: usize, unsaid: u64) -> u64 {
+// A number among the words. `None` if the word is none, or is missing where nothing stands for it.
+fn number(words: &[String], at: usize, unsaid: Option<u64>) -> Option<u64> {
     match words.get(at) {
-        Some(word) => word.parse::<u64>().unwrap_or(0),
+        Some(word) => word.parse::<u64>().ok(),
         None => unsaid,
     }
 }
 
-// How many copiers the words say, if they do; too many where the word is no such number.
-fn copiers(words: &[String]) -> Option<u8> {
-    let word = words.get(6)?;
-    Some(word.parse::<u8>().unwrap_or(u8::MAX))
+// Whether all counts are to be told. `None` if the word is another.
+fn tells(words: &[String]) -> Option<bool> {
+    match words.get(3) {
+        Some(word) if word.as_str() == "tell" => Some(true),
+        Some(_) => None,
+        None => Some(false),
+    }
 }
 
-// The device that the words say, memory if they don't. `None` where the word is none of a device.
+// How many copiers the words say, if they do. `None` if the word is no such number.
+fn copiers(words: &[String]) -> Option<Option<u8>> {
+    match words.get(6) {
+        Some(word) => Some(Some(word.parse::<u8>().ok()?)),
+        None => Some(None),
+    }
+}
+
+// The device that the words say, memory if they don't. `None` if the word is none of a device.
 fn far_side_of(words: &[String]) -> Option<FarSide> {
     match words.get(7) {
         Some(word) => FarSide::by(word.as_str()),
@@ -275,21 +286,28 @@ fn far_side_of(words: &[String]) -> Option<FarSide> {
 }
 
 // The turns of each mutator, the seed, whether all counts are to be told, how large the heap is, and its device.
-fn asked_by(words: &[String]) -> Asked {
-    Asked {
-        turns: number(words, 1, 0),
-        seed: number(words, 2, 0),
-        tells: number(words, 3, 1) == 0,
-        mutators: number(words, 4, 4),
-        logs: number(words, 5, 16),
-        copiers: copiers(words),
-        far_side: far_side_of(words),
-    }
+fn asked_by(words: &[String]) -> Option<Asked> {
+    Some(Asked {
+        turns: number(words, 1, None)?,
+        seed: number(words, 2, None)?,
+        tells: tells(words)?,
+        mutators: number(words, 4, Some(4))?,
+        logs: number(words, 5, Some(16))?,
+        copiers: copiers(words)?,
+        far_side: far_side_of(words)?,
+    })
 }
 
-fn arguments(rt: &HostRuntime) -> io::Result<Asked> {
+fn arguments(rt: &HostRuntime) -> io::Result<Option<Asked>> {
     let words: Vec<String> = env::args(rt)?.collect(rt.alloc())?;
     Ok(asked_by(words.as_slice()))
+}
+
+fn usage(rt: &impl Eprint) -> ExitCode {
+    let _ = eprintln!(rt;
+        "usage: soak_far_heap TURNS SEED [tell [MUTATORS [LOGS [COPIERS [DEVICE]]]]]"
+    );
+    ExitCode::from(2)
 }
 
 fn tell(rt: &impl Print, counts: &Counts, tells: bool) -> io::Result<()> {
@@ -301,8 +319,8 @@ fn tell(rt: &impl Print, counts: &Counts, tells: bool) -> io::Result<()> {
 }
 
 fn main(rt: HostRuntime) -> ExitCode {
-    let Ok(asked) = arguments(&rt) else {
-        return ExitCode::from(2);
+    let Ok(Some(asked)) = arguments(&rt) else {
+        return usage(&rt);
     };
     let Some(counts) = soak_each(&rt, rt.alloc(), asked) else {
         return ExitCode::from(2);

@@ -2,7 +2,9 @@
 
 use super::devices::{gives, keeps};
 use far_device::Device;
-use far_file::{Digest, FileDevice, FileFault, NewFile, NoSeal, Seal, SealedDevice, StorageFault};
+use far_file::{
+    Digest, FileDevice, FileFault, NewFile, NoSeal, Seal, SealedDevice, Storage, StorageFault,
+};
 use std::alloc::Global;
 use std::fs::File;
 use std::io;
@@ -67,6 +69,23 @@ fn file_fails(alloc: Global, file: io::Result<File>, why: StorageFault) -> bool 
         Ok(file) => fails_for(&mut FileDevice::<File>::new(alloc, file), why),
         Err(_) => false,
     }
+}
+
+// Whether storage gives back bytes that were put above 4 GiB.
+fn keeps_far_up<F: Storage>(storage: &mut F) -> bool {
+    let mut buffer = [0u8; 3];
+    storage.put(1 << 33, &[1, 2, 3]).is_ok()
+        && storage.get(1 << 33, &mut buffer).is_ok()
+        && buffer == [1, 2, 3]
+}
+
+#[test]
+fn a_file_keeps_bytes_above_4_gib(rt: HostRuntime) {
+    match NewFile::new().replacing().open(&rt, "far_up") {
+        Ok(mut file) => assert!(rt; keeps_far_up(&mut file)),
+        Err(_) => assert!(rt; false),
+    }
+    let _ = std::fs::remove_file(&rt, "far_up");
 }
 
 #[test]

@@ -211,6 +211,22 @@ fn storage_that_fails_is_told(rt: HostRuntime) {
     }
 }
 
+// Whether a handle tells the last of two faults, of a key under which nothing is and of one that has no slot.
+fn tells_the_last(mut device: FileDevice<MemStorage>) -> bool {
+    let Ok(last) = device.last_fault() else {
+        return false;
+    };
+    let fail = device.read(6).is_err() && device.write(2048, &[1]).is_err();
+    let why = FileFault::NoSlot;
+    fail && last.get() == Some(KeyFault { key: 2048, why })
+}
+
+#[test]
+fn a_handle_tells_the_last_of_two_faults(rt: HostRuntime) {
+    let storage = MemStorage::new(rt.alloc());
+    assert!(rt; tells_the_last(FileDevice::<MemStorage>::new(rt.alloc(), storage)));
+}
+
 #[test]
 fn the_key_that_failed_is_told(rt: HostRuntime) {
     let why = FileFault::Storage(StorageFault::Failed);

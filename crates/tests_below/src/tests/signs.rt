@@ -254,10 +254,13 @@ fn looks_now_and_then<R: Wait>(rt: &R) -> bool {
     waiter.took(rt, EVERY);
     let looked = !early && signs.is_wanted(rt) && !signs.rest(rt, Some(Found::Enough));
     waiter.took(rt, EVERY + 1);
-    looked && !signs.is_wanted(rt)
+    let late = signs.is_wanted(rt);
+    waiter.took(rt, 3 * EVERY);
+    looked && !late && signs.is_wanted(rt)
 }
 
-// One that takes room has the one that makes it look now and then, which doesn't sleep then. Refused so: a `took` that never does, or each time.
+// One that takes room has the one that makes it look now and then, which doesn't sleep then. Refused so: a `took` that never does, each time, or only at the
+// very number.
 #[test]
 fn room_that_is_taken_is_looked_after(rt: HostRuntime) {
     assert!(rt; looks_now_and_then(&rt));
