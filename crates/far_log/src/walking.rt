@@ -1,6 +1,7 @@
 //! The spans of a log, read off its words.
 
-ghost use Rattle.std.specs.Prelude.{◌≡◌, ◌+◌, ◌<◌, ◌≤◌, ◌↔◌, length, slice_index, IfOk, IfErr, IsTrue};
+ghost use Rattle.std.specs.Prelude.{◌≡◌, ◌+◌, ◌/◌, ◌<◌, ◌≤◌, ◌↔◌, length, slice_index, IfOk, IfErr, IsTrue};
+ghost use Rattle.std.specs.Vec.{vec_capacity};
 ghost use Rattle.far_word.specs.declared.sizes.TheConstants.{LOG_WORDS};
 ghost use Rattle.far_word.specs.Sizes.{size_of};
 ghost use Rattle.far_word.specs.Header.{version_of};
@@ -54,6 +55,7 @@ pub fn walk(alloc: Global, words: &[u64], tail: usize) -> Result<Vec<Span>, Walk
     requires within { tail ≤ length words.now }
     requires log { length words.now ≤ LOG_WORDS }
     ensures spans { IfOk result (λ spans. IsImage (λ i. slice_index words.now i) tail spans.items) }
+    ensures room { IfOk result (λ spans. vec_capacity spans ≡ tail / 2) }
     ensures fault { IfErr result (λ fault. IsFault (λ i. slice_index words.now i) tail fault) }
 {
     let Ok(mut spans) = Vec::with_capacity(alloc, tail / 2) else {

@@ -101,9 +101,13 @@ fn make_with<K: HeapName, D: Device + Drop, R: Wait, P: Policy>(
     ended(counts, random, end)
 }
 
-// The youngest sealed log.
-fn youngest<K: HeapName, D: Device + Drop>(book: &mut Evacuator<K, D>) -> Option<u8> {
+// The youngest sealed log. That the logs are refused is wrong.
+fn youngest<K: HeapName, D: Device + Drop>(
+    book: &mut Evacuator<K, D>,
+    counts: &mut Counts,
+) -> Option<u8> {
     let Ok(mut rows) = book.rows() else {
+        counts.one(Count::WrongAnswers);
         return None;
     };
     match rows.pop() {
@@ -127,7 +131,7 @@ fn make_youngest<K: HeapName, D: Device + Drop, R: Wait>(
     random: &mut Random,
     counts: &mut Counts,
 ) -> Then {
-    let found = youngest(&mut *heap.book(rt));
+    let found = youngest(&mut *heap.book(rt), counts);
     match found {
         Some(log) => make_with(rt, heap, random, counts, &mut Scripted { logs: &[log] }),
         None => Then::Over,

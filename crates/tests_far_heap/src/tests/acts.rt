@@ -141,6 +141,8 @@ pub(super) enum Act {
     Log(u8, LogKind, [u16; 3]),
     /// A log is free.
     Free(u8),
+    /// So many logs are sealed, and a log has so many spans.
+    Lists(usize, u8, usize),
     /// So many objects are near, so many far, and so many bytes live; each log's bytes make its size.
     Counts(u64, u64, u64),
     /// So many objects are near or far, and each log's bytes make its size.

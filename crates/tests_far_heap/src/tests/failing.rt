@@ -22,6 +22,16 @@ const STOPPED_ROUND: &[Act] = &[
 // All objects have their bytes.
 const BYTES: &[Act] = &[Opens, Brings(0, EIGHT), Brings(1, ZEROS), Brings(2, ZEROS)];
 
+// A round stands while the second isn't viewed.
+const STANDS: &[Act] = &[
+    Selects(Eldest, 1, Ok(&[1])),
+    Opens,
+    ViewsNone(1, Refused::Device),
+    Closes,
+    In(Phase::Marking),
+    GivesUp(Ok(())),
+];
+
 // The second, which is far, isn't viewed at first.
 const LATER_BYTES: &[Act] = &[
     Opens,
@@ -91,6 +101,11 @@ const WITHOUT_COPIERS: &[Play] = &[
     Play {
         over: Over::FailAt(2),
         scene: Acts(&[THREE, ROUND, LATER_BYTES, ALL_THREE]),
+        ..ONE
+    },
+    Play {
+        over: Over::FailAt(2),
+        scene: Acts(&[THREE, ROUND, STANDS, BYTES, ALL_THREE]),
         ..ONE
     },
     Play {

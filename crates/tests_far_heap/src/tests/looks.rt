@@ -130,6 +130,25 @@ pub(super) fn is_log<K: HeapName, D: Device + Drop>(
     book.log(log) == LogState { kind, row }
 }
 
+// Whether so many logs are sealed, and a log has so many spans.
+fn lists<K: HeapName, D: Device + Drop>(
+    book: &mut Evacuator<K, D>,
+    sealed: usize,
+    log: u8,
+    spans: usize,
+) -> bool {
+    let Ok(rows) = book.rows() else {
+        return false;
+    };
+    if rows.len() != sealed || log as u64 >= book.shape().logs {
+        return false;
+    }
+    match book.spans(log) {
+        Ok(found) => found.len() == spans,
+        Err(_) => false,
+    }
+}
+
 /// What a census counts.
 #[derive(Clone, Copy, PartialEq)]
 pub(super) struct Counted {
@@ -224,6 +243,7 @@ pub(super) fn shows<K: HeapName, D: Device + Drop>(book: &mut Evacuator<K, D>, a
         Act::Gone(pointer) => home(book, pointer).is_none(),
         Act::Log(log, kind, bytes) => is_log(book, log, kind, bytes),
         Act::Free(log) => is_log(book, log, LogKind::Free, [0, 0, 4096]),
+        Act::Lists(sealed, log, spans) => lists(book, sealed, log, spans),
         Act::Counts(near, far, live) => counts(book, near, far, live),
         Act::Has(objects) => has_objects(book, objects),
         _ => false,

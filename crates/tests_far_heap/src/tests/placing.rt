@@ -8,9 +8,11 @@ use crate::tests::play::{ONE, Play, holds};
 use far_evac::{Phase, Polled};
 use far_word::Refused;
 
-// An object is refused by a mutator and by its scope for want of room, and all stands as before.
+// An object is refused by a mutator and by its scope for want of room, one without bytes for its length, and a drop of what isn't used; all stands as before.
 const NO_ROOM: &[Act] = &[
     Notes,
+    Makes(0, Err(Refused::Length)),
+    Drops(255, Err(Refused::NotHeld)),
     Makes(8, Err(Refused::NoRoom)),
     Opens,
     Makes(8, Err(Refused::NoRoom)),

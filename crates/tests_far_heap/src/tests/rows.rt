@@ -37,6 +37,7 @@ const AFTER_ROUND: &[Act] = &[
     Free(0),
     Log(1, LogKind::Sealed, [4096, 0, 0]),
     Log(2, LogKind::Open, [16, 0, 4080]),
+    Lists(1, 2, 1),
     Counts(2, 1, 4112),
 ];
 

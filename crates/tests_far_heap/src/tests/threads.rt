@@ -134,6 +134,7 @@ const HELD_BOOK: Duet = Duet {
         AwaitsHold,
         Opens,
         KeepsSlowly(0),
+        KeepsSlowly(0),
         WritesAt(0, &EIGHT),
         ReadsAt(0, &EIGHT),
         Closes,
