@@ -90,6 +90,12 @@ for way in '' split; do # without and with the argument
         got=0
         printf 'heap 4 1\n' | "$program" $way >&- 2>"$work/err" || got=$?
         expect "no standard output, $way" 1 '' 'write fault'
+        exec {gone}> >(:)
+        wait "$!"
+        got=0
+        printf 'heap 4 1\n' | "$program" $way >&"$gone" 2>"$work/err" || got=$?
+        exec {gone}>&-
+        expect "a reader that is gone, $way" 1 '' 'write fault'
     }
 done
 exit "$wrong"
