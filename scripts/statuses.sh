@@ -42,6 +42,11 @@ given 'heap 4 1\n' $'\xff'
 expect 'an argument that is no text' 2 '' "$usage"
 given 'heap 4 1\n' split $'\xff'
 expect 'one that is no text after split' 2 '' "$usage"
+given 'heap 4 1\n' splits
+expect 'an argument that goes on' 2 '' "$usage"
+got=0
+printf 'heap 4 1\n' | (exec -a $'\xff' "$program") >"$work/out" 2>"$work/err" || got=$?
+expect 'a name of the program that is no text' 0 ok ''
 given 'heap 1 1\nx'
 expect 'a line before a shape' 2 'refused 16 2' ''
 given 'heap 4 1\nselect script 1\n'
@@ -85,6 +90,12 @@ for way in '' split; do # without and with the argument
         got=0
         printf 'heap 4 1\n' | "$program" $way >&- 2>"$work/err" || got=$?
         expect "no standard output, $way" 1 '' 'write fault'
+        exec {gone}> >(:)
+        wait "$!"
+        got=0
+        printf 'heap 4 1\n' | "$program" $way >&"$gone" 2>"$work/err" || got=$?
+        exec {gone}>&-
+        expect "a reader that is gone, $way" 1 '' 'write fault'
     }
 done
 exit "$wrong"

@@ -2,10 +2,10 @@
 use Rattle.std.proofs.Common.{◌≡◌, ℕ, ◌<◌, ◌≤◌, ◌+◌, suc, zero, ◌==◌, List, [], ◌∷◌, ◌++◌, length, take, drop, get_or, true, false, Bool, cond, not, add-one, take-append-drop, sym, ◌∙◌, ap, refl, arith, append-nil}
 use Rattle.std.specs.List.{slice_split, onto_first, join_with_byte, list_all}
 use Rattle.std.proofs.lemmas.List.Splits.{join_with_byte-slice_split}
-use Rattle.std.proofs.lemmas.List.{length-append}
+use Rattle.std.proofs.lemmas.List.{length-append, get_or_append_left}
 use Rattle.std.proofs.lemmas.Bool.{and_parts}
 use Rattle.std.proofs.lemmas.Bool.Decides.{nat_tests}
-use Rattle.std.proofs.Math.Seq.{drop-cons}
+use Rattle.std.proofs.Math.Seq.{drop-cons, get_or-append_seam}
 use Rattle.far_text.specs.Grammar.{lines_of, line_words}
 use Rattle.far_text.specs.Cursor.{is_end, front_of, rest_of, first_line, lines_after_first, words_in}
 
@@ -84,6 +84,14 @@ name_at text name longer same space within =
     let whole : name ++ 32 ∷ drop (n + 1) text ≡ text = ap (λ l. l ++ 32 ∷ drop (n + 1) text) (sym (front_same text name (omega arith) same)) ∙ ap (λ l. take n text ++ l) (sym rest) ∙ take-append-drop n text in
     let on = name_on name (drop (n + 1) text) within in
     (sym (ap words_in whole) ∙ on.0, sym (ap lines_after_first whole) ∙ on.1)
+
+-- what a text that begins with a name and a space has there
+pub name_before : (text name rest : List ℕ) → text ≡ name ++ 32 ∷ rest
+    → (length name < length text) × (get_or text (length name) 0 ≡ 32) × ((k : ℕ) → k < length name → get_or text k 0 ≡ get_or name k 0)
+name_before text name rest e =
+    let sum = length-append name (32 ∷ rest) in
+    let same = ap length e in
+    (omega arith, rw e (get_or-append_seam name 32 rest 0), λ k less. rw e (get_or_append_left name (32 ∷ rest) 0 k less))
 
 -- the first line goes on behind bytes that are no newline
 pub line_at : (text : List ℕ) (i : ℕ) → i ≤ length text → ((k : ℕ) → k < i → (get_or text k 0 == 10) ≡ false)

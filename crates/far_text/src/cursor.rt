@@ -1,6 +1,6 @@
 //! A text that is read word by word, each byte once.
 
-ghost use Rattle.std.specs.Prelude.{◌≡◌, ◌≤◌, ◌<◌, ◌+◌, ◌*◌, ◌%◌, ◌^◌, ◌==◌, ◌∷◌, ℕ, [], length, take, drop, true, false, not, slice_index, IfSome, IfNone};
+ghost use Rattle.std.specs.Prelude.{◌≡◌, ◌≤◌, ◌<◌, ◌+◌, ◌*◌, ◌%◌, ◌^◌, ◌==◌, ◌∷◌, ◌++◌, ℕ, List, [], length, take, drop, true, false, not, slice_index, IfSome, IfNone};
 ghost use Rattle.std.specs.Char.{is_ascii_digit};
 ghost use Rattle.std.specs.Int.{IsInRange};
 ghost use Rattle.std.specs.List.{list_all};
@@ -66,6 +66,7 @@ pub fn after_name<'a>(text: &'a [u8], name: &[u8]) -> Option<&'a [u8]>
     requires { list_all (λ b. not (is_end b)) name.now ≡ true }
     ensures words { IfSome result (λ rest. words_in text.now ≡ name.now ∷ words_in rest.now) }
     ensures lines { IfSome result (λ rest. lines_after_first text.now ≡ lines_after_first rest.now) }
+    ensures none { IfNone result ((rest : List ℕ) → text.now ≡ name.now ++ 32 ∷ rest → ⊥) }
 {
     let len = name.len();
     if text.len() <= len || text[len] != b' ' {

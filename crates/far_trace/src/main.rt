@@ -7,10 +7,11 @@ use far_reply::{Output, WriteFault};
 use far_split::{NoGate, SplitFault, SplitOut, run_split};
 use far_text::LONGEST_TEXT;
 use std::alloc::AllocError;
+use std::env::{Env, FillError};
+use std::io;
 use std::process::ExitCode;
 use std::sync::Wait;
 use std::thread::Threads;
-use std::{env, io};
 use thiserror::Error;
 
 /// What the arguments ask for.
@@ -60,23 +61,18 @@ impl From<AllocError> for Fault {
     }
 }
 
-// An argument that is no text is an argument too.
-fn arguments(rt: &HostRuntime) -> Result<Asked, Fault> {
-    let mut words = match env::args(rt) {
-        Ok(words) => words,
-        Err(e) if e.kind() == io::ErrorKind::OutOfMemory => return Err(Fault::Run(
-            RunFault::Memory,
-        )),
-        Err(_) => return Ok(Asked::Unknown),
-    };
-    let _program = words.next();
-    let Some(word) = words.next() else {
-        return Ok(Asked::Whole);
-    };
-    if words.next().is_none() && word.as_str() == "split" {
-        Ok(Asked::Split)
-    } else {
-        Ok(Asked::Unknown)
+// Whether there is such an argument, text or not.
+fn is_given(rt: &impl Env, number: usize) -> bool {
+    !matches!(rt.arg(number, &mut [0; 1]), Err(FillError::NotPresent))
+}
+
+// The program's own name, argument 0, isn't read: it need be no text.
+fn arguments(rt: &impl Env) -> Asked {
+    let mut word = [0; 5];
+    match rt.arg(1, &mut word) {
+        Err(FillError::NotPresent) => Asked::Whole,
+        Ok(len) if &word[..len] == b"split".as_slice() && !is_given(rt, 2) => Asked::Split,
+        _ => Asked::Unknown,
     }
 }
 
@@ -121,9 +117,8 @@ fn status(rt: &impl Eprint, ended: Result<End, Fault>) -> ExitCode {
 
 fn main(rt: HostRuntime) -> ExitCode {
     match arguments(&rt) {
-        Ok(Asked::Whole) => status(&rt, answer(&rt)),
-        Ok(Asked::Split) => status(&rt, answer_split(&rt)),
-        Ok(Asked::Unknown) => usage(&rt),
-        Err(fault) => status(&rt, Err(fault)),
+        Asked::Whole => status(&rt, answer(&rt)),
+        Asked::Split => status(&rt, answer_split(&rt)),
+        Asked::Unknown => usage(&rt),
     }
 }

@@ -3,6 +3,7 @@
 mod faults;
 mod once;
 mod ordered;
+mod pieces;
 mod refusing;
 mod rows;
 mod talk;

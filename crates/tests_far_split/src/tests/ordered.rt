@@ -473,6 +473,36 @@ log 1 sealed live 2008 dead 0 unused 2088
 ",
 };
 
+// A far object's word names its data structure, also if the object was made in an open scope.
+const STRUCTURES: Row = Row {
+    text: "\
+heap 4 1
+new 0 8 4
+open 0
+new 0 8 6
+close 0
+new 0 4088 1
+round oldest 1 9
+open 0
+try 0 0
+try 0 1
+",
+    order: &[0, 0, 0, 0, 0, B, 0, 0, 0],
+    told: "\
+mutator 0
+pointer 0
+ok
+pointer 1
+ok
+pointer 2
+ok
+refused 14 0400000000040008
+refused 14 0400000000060008
+book
+round done moved 0 far 2 dropped 0 freed 1
+",
+};
+
 #[test]
 fn lines_in_order_are_answered_as_in_one_thread(rt: HostRuntime) {
     for (at, row) in [
@@ -489,6 +519,7 @@ fn lines_in_order_are_answered_as_in_one_thread(rt: HostRuntime) {
         NEVER_LIES,
         LEAST_LIVE,
         OLDEST,
+        STRUCTURES,
     ]
     .iter()
     .enumerate()

@@ -1,7 +1,8 @@
 use Rattle.std.proofs.Common.{◌≡◌, ◌+◌, ◌-◌, ◌∷◌, ℕ, List, length, take, drop, get_or, sym, ap, ◌∙◌, arith, below_more, length-drop}
 use Rattle.std.proofs.Math.Seq.{take-length}
 use Rattle.far_text.specs.Cursor.{words_in, lines_after_first}
-use Rattle.far_text.proofs.Cuts.{name_at}
+use Rattle.far_text.proofs.Cuts.{name_at, name_before}
+use Rattle.far_text.proofs.cursor.after_name.Goals.{then-text-len-via-then-text-len, then-text-len-via-else-text-len+then-text-len-ne32}
 use Rattle.far_text.proofs.cursor.after_name.Goals as goal
 
 behind : (text : List ℕ) (n : ℕ) → drop n text ≡ take (length text - n) (drop n text)
@@ -24,3 +25,15 @@ returns-clause-lines c =
     let text = c.args.text.now in
     let name = c.args.name.now in
     (name_at text name c.if-text-len.false (λ k less. c.loop-at.invariant.same k (omega arith)) c.if-text-len-ne32.false c.requires).1 ∙ ap lines_after_first (behind text (length name + 1))
+
+pub returns-then-text-len-clause-none : goal.returns-then-text-len-clause-none
+returns-then-text-len-clause-none c rest e =
+    let before = name_before c.args.text.now c.args.name.now rest e in
+    elim c.then-text-len.branch [
+      | then-text-len-via-then-text-len w ↦ absurd (omega (arith, w.if-text-len.true, before.0))
+      | then-text-len-via-else-text-len+then-text-len-ne32 w ↦ w.if-text-len-ne32.true before.1
+    ]
+
+pub returns-then-text-at-clause-none : goal.returns-then-text-at-clause-none
+returns-then-text-at-clause-none c rest e =
+    c.if-text-at.true ((name_before c.args.text.now c.args.name.now rest e).2 c.loop-at.at c.loop-at-test.true)
