@@ -150,10 +150,11 @@ impl<K: HeapName, D: Device + Drop> Heap<K, D> {
     }
 
     /// Makes a round: asks a policy for logs, at most `most`, and makes `turns` turns, or fewer if the round is over before. The lock is taken for the
-    /// choice, and anew for each turn; where a turn finds nothing to do, since a scope is open for which the round waits, or a copy isn't finished, other
-    /// threads run before the next. [`RoundEnd::Nothing`] exactly where no log was chosen, [`RoundEnd::Done`], with the sum of what the turns
-    /// did, where a turn gave the last of the round's logs back, and else [`RoundEnd::Limit`], with the phase after the last turn, or after the choice if `turns` is 0: the
-    /// round goes on by [`Evacuator::turn`], or is given up by [`Evacuator::abort`]. A policy is offered sealed logs alone, those that were full when another was opened.
+    /// choice, and anew for each turn; where a turn counted nothing and left the phase as it was, unless it marks, other threads run before the next.
+    /// [`RoundEnd::Nothing`] exactly where no log was chosen, [`RoundEnd::Done`], with the sum of what the turns did, where a turn gave the last of the round's
+    /// logs back, and else [`RoundEnd::Limit`], with the phase after the last turn, or after the choice if `turns` is 0: the round goes on by
+    /// [`Evacuator::turn`], or is given up by [`Evacuator::abort`]. A policy is offered sealed logs alone, those in which an object had no room, so that another
+    /// was opened.
     ///
     /// Refused as [`Evacuator::select`] and [`Evacuator::turn`] are: [`Refused::Memory`] or [`Refused::Device`] as the device answered one write, of an object that
     /// was to leave. [`Refused::Phase`] also where another caller ended the round meanwhile, or gave it up and began one of other logs, which stays as it is. `so_far`

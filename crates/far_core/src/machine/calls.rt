@@ -94,8 +94,8 @@ impl Core {
         self.memory.soil(owner, pointer)
     }
 
-    /// An open owner closes its scope, and holds, has soiled and remembers nothing from then on. This writes the places and
-    /// marks of its 256 cells, whatever it holds.
+    /// An open owner closes its scope, and holds, has soiled and remembers nothing from then on. This writes two flags of all
+    /// its 256 cells, whatever it holds.
     #[inline]
     pub fn close(&mut self, owner: u8)
         requires legal { Legal (core_state self.old) (Event.Close owner) }

@@ -1,4 +1,4 @@
-//! What an evacuator does by several calls, over any hand of a book. Each call at the one seat of a table costs its proof seven seconds, and one here none.
+//! What an evacuator does by several calls, over any hand of a book. A call at the seat of a table costs its proof some ten seconds, one here none.
 
 ghost use Rattle.std.specs.Prelude.{◌≡◌, ◌⊎◌, ◌/◌, ◌<◌, ◌≤◌, ◌*◌, ℕ, [], Some, Ok, Err, false, true, IsSome, IfOk, IfErr};
 ghost use Rattle.far_word.specs.Sizes.{size_of};
@@ -49,7 +49,7 @@ pub(crate) fn over<N: Near + Drop, D: Device + Drop>(book: Book<N, D>, copying: 
 }
 
 // What its book knows keeps its part of the law of the core, and the round agrees with it. The device holds bytes of each far object, and of each near one
-// without DIRTY, and is honest where the words say that the far side is. And whom no owner views, as `nobody_views` says.
+// without DIRTY, and is honest where the words say that the far side is. And in which logs no owner views anything, by `nobody_views`.
 pub(crate) fn keeps_law<N: Near + Drop, D: Device + Drop>(evac: &Evac<N, D>)
     ensures law { Law (own_part (N.view evac.now.book.near)) }
     ensures moment { MomentLaw (moment N.view evac.now) }

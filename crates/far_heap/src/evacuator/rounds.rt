@@ -58,9 +58,9 @@ impl<K: HeapName, D: Device + Drop> Evacuator<K, D> {
     /// hot one goes to another log, or far where no room is; any other goes far. A log in front without live objects is given back at once; after the
     /// last the round is over, and the answer says `done`.
     ///
-    /// With copiers the finished jobs are collected first, and those whose pointers are named to their copies count as moved. Then all logs that are left are
-    /// walked over: an object whose copy is under way is passed over, and counts for nothing; a hot one is offered where a job is empty and there is room. It
-    /// counts as one of n, and is told once it has moved. Each log where nothing lies, and which no job reads or writes, is given back.
+    /// With copiers the finished jobs are collected first; those whose pointers are named to their copies count as moved. Then the logs left are walked
+    /// over, as far as n objects go: one whose copy is under way is passed over, uncounted; a hot one is offered where a job is empty and there is room. That
+    /// is one of n, and told once it has moved. At its end a log is given back if nothing lies there and no job reads or writes it.
     ///
     /// Refused [`Refused::Phase`] exactly where objects don't leave now, and nothing has changed; or [`Refused::Memory`] or [`Refused::Device`] as the
     /// device is, at an object that is as before. What was done before it stays, and is counted in `so_far`.
