@@ -1,4 +1,4 @@
-//! Which mutator and which pointer of a heap a line's numbers are.
+//! What the interpreter asks of the heap: owners, pointers, the core; and an owner's event.
 
 ghost use Rattle.std.specs.Prelude.{◌≡◌, ◌<◌, ◌≤◌, ◌/◌, true, false, IfSome, IfNone};
 ghost use Rattle.far_word.specs.declared.sizes.TheConstants.{CELLS};
@@ -27,8 +27,8 @@ pub fn core_of(evac: &Evac<Plain, FarSide>) -> &Core
     evac.book().core()
 }
 
-/// The law of the round holds, and nothing is copied beside. It stands here once for all, as the next does: a call of what is made
-/// for any far side costs the check of each function that has one.
+/// The law of the round holds, and nothing is copied beside. Called in place of `Evac`'s own, as is `make_event`: each function that
+/// calls what is generic in its far side is dear to prove.
 #[inline(always)]
 pub fn keeps_law(evac: &Evac<Plain, FarSide>)
     ensures moment { MomentLaw (moment_in evac.now) }

@@ -307,8 +307,8 @@ fn answer_text<W: Write>(
 /// grammar, or whose heap's shape is out of range, is answered by that one refusal, and nothing else is run. An `evacuate` or a `round` that is refused memory in its midst is answered so,
 /// and the run goes on.
 ///
-/// Faults: [`RunFault::Read`] where the reader fails, any error of it; [`RunFault::Memory`] where memory is refused before the first command: then
-/// nothing was written, but all or part of `refused 1` where it was the heap's; [`RunFault::Write`] where the writer fails or takes nothing: what was written is a proper prefix of the output.
+/// Faults: [`RunFault::Read`] if the reader fails, any error of it; [`RunFault::Memory`] if memory is refused before the first command after the heap: then
+/// nothing was written, but all or part of `refused 1` if it was the heap's; [`RunFault::Write`] if the writer fails or takes nothing: what was written is a proper prefix of the output.
 pub fn run<R: Read, W: Write>(
     alloc: Global,
     reader: &mut R,

@@ -279,8 +279,8 @@ impl Commands {
     }
 
     /// Adds a command that was read, unless it writes what is no word in hex, or chooses what can't be chosen. Whether it did;
-    /// if not, nothing has changed. `Err` if there is no memory, or the bytes of all writes and scripts would be 2^32, or up to
-    /// 1,536 fewer. At most 1,048,576 commands may stand before this one.
+    /// if not, nothing has changed. `Err` if there is no memory, or maybe if the bytes of all writes and scripts would reach
+    /// 2^32 - 1,536. At most 1,048,576 commands may stand before this one.
     #[inline(always)]
     pub fn push(&mut self, command: Command<'_>) -> Result<bool, AllocError>
         requires { length self.old ≤ LONGEST_TEXT }

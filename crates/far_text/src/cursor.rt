@@ -20,7 +20,7 @@ pub enum Rest<'a> {
     Lines(Option<&'a [u8]>),
 }
 
-// What is left after a word that ends before this byte, or None where it goes on.
+// What is left after a word that ends before this byte, or None if it goes on.
 #[inline(always)]
 fn rest_at(text: &[u8], at: usize) -> Option<Rest<'_>>
     requires { at ≤ length text.now }
@@ -155,7 +155,7 @@ fn one_digit_more(text: &[u8], len: usize, n: u64) -> Option<u64>
     }
 }
 
-// The same as `digits_first`, sooner where they are at most four.
+// The same as `digits_first`, sooner if they are at most four.
 #[inline(always)]
 fn few_digits_first(text: &[u8]) -> (u64, usize)
     ensures fits { result.1 ≤ length text.now }
@@ -249,8 +249,7 @@ fn split_line(text: &[u8]) -> (&[u8], Option<&[u8]>)
     (&text[..len], Some(&text[len + 1..]))
 }
 
-// The first line of a text, which spells bytes where it is a word in hex, and the lines after it. A line in hex is one word,
-// so only its end is looked for.
+// The rest of the line, which spells bytes exactly if it is one word in hex, and the lines after it.
 #[inline(always)]
 #[tactic(auto, using(crate::proofs::LastWord::one_word))]
 fn line_bytes(text: &[u8]) -> (&[u8], Option<&[u8]>)
@@ -260,7 +259,7 @@ fn line_bytes(text: &[u8]) -> (&[u8], Option<&[u8]>)
     split_line(text)
 }
 
-/// What spells bytes where it is a word in hex, and the last one of its line, and the lines after it.
+/// What spells bytes if it is a word in hex, and the last one of its line, and the lines after it.
 #[inline(always)]
 pub fn last_bytes_of(rest: Rest<'_>) -> Option<(&[u8], Option<&[u8]>)>
     ensures bytes { option_and_then (λ found. bytes_in found.0.now) result ≡ last_bytes (words_left rest.entry) }

@@ -17,7 +17,7 @@ pub const LONGEST_BYTES: usize = LONGEST_LINE / 2;
 // How large a buffer is taken at first, which is not moved then: as much as the words of the longest text spell.
 const CAPACITY: usize = 524_288;
 
-// How much more than a word needs is filled with it.
+// How many bytes more are filled than a word needs.
 const STEP: usize = 1_536;
 
 // The buffer stays shorter, so that 32 bits say where the bytes of a word begin. No text spells as many.
@@ -47,8 +47,8 @@ fn decode(word: &[u8], buffer: &mut [u8]) -> bool
     true
 }
 
-// Enlarges the buffer where it is too small, and fills as much as is asked for and some more: where little is filled no
-// instruction is repeated for each byte. It stands apart from its caller, which seldom needs it.
+// Enlarges the buffer if it is too small, and fills as much as is asked for and some more: below 2,048 bytes libc's
+// `memset` uses no `rep stosb`. It stands apart from its caller, which seldom needs it.
 #[inline(never)]
 fn fill(buffer: &mut Vec<u8>, to: usize) -> Result<(), AllocError>
     requires more { length buffer.old.items < to }

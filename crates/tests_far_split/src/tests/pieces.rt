@@ -36,7 +36,7 @@ fn logs_of(alloc: Global, count: u64) -> Result<String, AllocError> {
     Ok(text)
 }
 
-// The writer of a run of such a text. `None` where it doesn't come to its end.
+// The writer of a run of such a text. `None` if it doesn't come to its end.
 fn counted<R: Threads + Wait + Sync>(rt: &R, alloc: Global, count: u64) -> Option<Counting> {
     let Ok(text) = logs_of(alloc, count) else {
         return None;
