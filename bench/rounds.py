@@ -6,7 +6,7 @@ usage: rounds.py PROGRAM TWIN     each a command, as 'twin --stage 10'
 First a text of just under 1 MiB: rounds over a thousand objects of which some are near, some hot and some far. Both programs run under callgrind,
 their outputs are compared, and the ratio of their instructions is printed. Then the instructions of one line `round oldest 1 1000`, a text with it
 less the same text without it, as one number of the heap grows: they are to be linear in the live objects of the chosen log, and nearly independent of
-all else. Last the instructions of PROGRAM for a round that sends the objects of a log far again, as they came and written since. Ends with 1 where outputs differ or the ratio is above the bar. It needs valgrind.
+all else. Last the instructions of PROGRAM for a round that sends the objects of a log far again, as they came and written since. Ends with 1 where outputs differ or the ratio is above the goal, BAR. It needs valgrind.
 """
 import random
 import re
@@ -15,7 +15,7 @@ import subprocess
 import sys
 
 LIMIT, LOG_BYTES, CELLS, MOST = 1_048_576, 4_096, 256, 4_088
-BAR, ROUND = 1.6, "round oldest 1 1000\n"
+BAR, ROUND = 1.35, "round oldest 1 1000\n"
 SERIES = [
     ("live objects of the chosen log, sent far", "chosen", (0, 16, 32, 48, 64), {}),
     ("live objects of the chosen log, moved", "chosen", (0, 16, 32, 48, 64), {"hot": True}),
@@ -135,7 +135,7 @@ def main() -> int:
     counts = [instructions(command, text) for command in programs]
     ratio, lines = counts[0] / counts[1], text.count("\n")
     print(f"{len(text):,} bytes, {lines:,} lines, {text.count('round') + text.count('select'):,} rounds; instructions {counts[0]:,} to {counts[1]:,}, "
-          f"a line {counts[0] / lines:.1f} to {counts[1] / lines:.1f}; ratio {ratio:.2f}, the bar is {BAR}")
+          f"a line {counts[0] / lines:.1f} to {counts[1] / lines:.1f}; ratio {ratio:.2f}, goal {BAR}{'' if ratio <= BAR else ': missed'}")
     alike = all(grows(programs, *series) for series in SERIES)
     print("outputs are equal" if alike else "OUTPUTS DIFFER")
     for size in (8, 64, MOST):
