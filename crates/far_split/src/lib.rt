@@ -5,7 +5,6 @@
 
 mod access;
 mod books;
-mod far_side;
 mod gate;
 mod inquiries;
 mod laws;
