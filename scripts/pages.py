@@ -32,7 +32,7 @@ FROM_TOP = re.compile(r"(?<![\w/.*-])(?:crates|docs|scripts|bench|\.ci)/[\w./*-]
 NAMED = re.compile(r"[\w.*-]+(?:/[\w.*-]*)*")
 SUFFIXES = (".rt", ".antt", ".md", ".py", ".sh", ".c", ".trace", ".svg", ".txt", ".edit")
 ROW = re.compile(r"`(heap [^`]*)`(?:,? and)?\s+prints\s+`([^`]*)`|`(heap [^`]*)`: at last\s+`([^`]*)`")
-ABROAD = {"decode_to_slice", "try_lock"}  # of std and hex, called nowhere here
+ABROAD = {"try_lock"}  # of std, called nowhere here
 wrong = []
 
 

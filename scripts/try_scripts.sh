@@ -82,6 +82,10 @@ launch 'a run without a proof' 0 'try far_trace' "$tree/scripts/try"
 tells 'try: far_trace is being compiled without a proof, for some half a minute'
 WORDS='split' launch 'one with split' 0 'try far_trace' "$tree/scripts/try" split
 launch 'one that ends badly' 1 'try far_trace' "$tree/scripts/try" split
+launch 'another argument of try' 2 '' "$tree/scripts/try" splitx
+tells 'usage: try [split] <TRACE'
+: >"$CALLS"
+[[ "$("$tree/scripts/try" --help)" == 'usage: try [split] <TRACE' && ! -s "$CALLS" ]] || fail 'try --help'
 launch 'a first call, through a link' 0 'lib far_evac,lib far_text,run far_trace' "$work/linked/trace"
 tells 'far_trace: far_evac (2 of 4): is being proved and built'
 tells 'far_trace: far_text (3 of 4): so far: 3 of 9 functions checked'
@@ -120,6 +124,7 @@ draw() { # what, the status that is wanted, and the text that is drawn
     ((got)) || python3 -c 'import sys, xml.dom.minidom; xml.dom.minidom.parse(sys.argv[1])' "$work/out" || fail "draw, $1: no XML"
 }
 
+[[ "$("$here/draw" --help | head -n 1)" == 'usage: draw TRACE [PROGRAM]' ]] || fail 'draw --help'
 draw 'refusals and inquiries' 0 '# words & <more>\n\nheap 2 1\nnew 0 8 1\nlogs\nopen 9\nwhere 0 0\ndrop 0 0\nlogs\nnew 0 9 1\nread 0 0 0 1'
 [[ "$(grep -c 'class="refused"' "$work/out")" == 2 ]] || fail 'draw: not each refusal is shown'
 draw 'a heap alone' 0 'heap 64 8\n'

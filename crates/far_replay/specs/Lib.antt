@@ -9,6 +9,7 @@ pub mod Effects
 pub mod EventRows
 pub mod Events
 pub mod Far
+pub mod Flawed
 pub mod Interpreter
 pub mod Lawful
 pub mod Moment

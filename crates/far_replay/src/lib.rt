@@ -8,6 +8,7 @@
 mod dereferencing;
 mod dropping;
 mod epochs;
+mod far_side;
 mod inquiries;
 mod outcome;
 mod owners;
@@ -16,5 +17,7 @@ mod running;
 mod turn;
 mod viewing;
 
+pub use far_side::far_side_of;
 pub use far_text::{grammar_is_said, limits_are};
+pub use owners::FarSide;
 pub use running::{End, RunFault, read_whole, run};

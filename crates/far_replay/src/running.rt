@@ -10,7 +10,7 @@ ghost use Rattle.far_core.specs.state.Shape.{is_shape};
 ghost use Rattle.far_replay.specs.Moment.{Moment, moment_in, moment_of, state_in};
 ghost use Rattle.std.specs.Option.{option_map};
 ghost use Rattle.far_text.specs.Command.{as_device};
-ghost use Rattle.far_replay.specs.Spent.{IsLeft, may_spoil};
+ghost use Rattle.far_replay.specs.Flawed.{IsFlawed};
 ghost use Rattle.far_replay.specs.Answers.{AnsweredBy, ByDevice, opened, flaws, is_true, lie_of, Outside, MayMakeHeap, WritesOutput, WritesAnswer, LeavesBehind, Leaves, end_of};
 ghost use Rattle.far_text.specs.declared.text.TheConstants.{LONGEST_TEXT};
 ghost use Rattle.far_text.specs.Grammar.{trace_of};
@@ -21,12 +21,12 @@ ghost use Rattle.far_replay.specs.Between.{Between};
 ghost use Rattle.far_evac.specs.MomentLaw.{MomentLaw};
 ghost use Rattle.far_evac.specs.Strays.{NoneStrays};
 
+use crate::far_side::far_side_of;
 use crate::outcome::{Outcome, Scratch};
 use crate::owners::FarSide;
 use crate::turn::turn;
 use far_book::{Book, Plain};
 use far_core::{Core, Shape};
-use far_device::{FailAt, Liar, MemDevice};
 use far_evac::Evac;
 use far_reply::{Reply, ReplyWriter, WriteFault, read_text};
 use far_text::{Commands, Device, Flaw, LONGEST_TEXT, ParseError, Trace, parse};
@@ -154,7 +154,7 @@ fn answer_commands<W: Write>(
     requires round { MomentLaw (moment_in evac) }
     requires alone { evac.copying ≡ false }
     requires strays { NoneStrays (moment_in evac) }
-    requires few { may_spoil (lie_of (option_map as_device device)) evac (flaws (option_map as_device device)) }
+    requires flawed { IsFlawed (option_map as_device device) evac.book.device }
     ensures { (outside : List Outside) × (replies : List Answer) × (moments : List Moment) × ByDevice (lie_of (option_map as_device device)) (flaws (option_map as_device device)) outside (moment_in evac) commands.now moments × AnsweredBy outside (moment_in evac) commands.now replies moments
         × Writes (W.contents writer.old) (W.contents writer.new) result (flat_map reply_text (opened (option_map as_device device) ++ replies)) }
 {
@@ -166,22 +166,6 @@ fn answer_commands<W: Write>(
         answer_one(writer, replies, scratch, outcome);
     }
     replies.finish(writer)
-}
-
-// The far side of a heap, with the flaw that its device is said to have, if any.
-fn far_side(alloc: Global, device: Option<Device>) -> FarSide
-    ensures lie { result.lie ≡ lie_of (option_map as_device device) }
-    ensures few { IsLeft (lie_of (option_map as_device device)) result (flaws (option_map as_device device)) }
-{
-    let memory = MemDevice::new(alloc);
-    match device {
-        Some(device) => match device.flaw {
-            Flaw::Fail => Liar::short(FailAt::new(memory, device.call), 0),
-            Flaw::Short => Liar::short(FailAt::new(memory, 0), device.call),
-            Flaw::Flip => Liar::flip(FailAt::new(memory, 0), device.call),
-        },
-        None => Liar::short(FailAt::new(memory, 0), 0),
-    }
 }
 
 // Whether what is read of a heap's device is always what was written.
@@ -203,14 +187,13 @@ fn new_heap(
     shape: Shape,
     device: Option<Device>,
 ) -> Result<Evac<Plain, FarSide>, Refused>
-    ensures few { IfOk result (λ evac. may_spoil (lie_of (option_map as_device device)) evac (flaws (option_map as_device device))) }
+    ensures flawed { IfOk result (λ evac. IsFlawed (option_map as_device device) evac.book.device) }
     ensures moment { IfOk result (λ evac. moment_in evac ≡ moment_of (opening shape (is_true (option_map as_device device)))) }
     ensures range { IfOk result (λ _. is_shape shape ≡ true) }
     ensures refused { IfErr result (λ why. why ≡ cond (is_shape shape) Refused.Memory Refused.Shape) }
 {
     let core = Core::new(alloc, shape, tells_truth(device))?;
-    let far = far_side(alloc, device);
-    let book = Book::new(alloc, Plain { core }, far)?;
+    let book = Book::new(alloc, Plain { core }, far_side_of(alloc, device))?;
     Ok(Evac::new(book))
 }
 

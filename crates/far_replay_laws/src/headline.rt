@@ -157,7 +157,7 @@ pub fn drops_end_objects()
     ensures { DropEndsObject }
 {}
 
-/// Each step of the evacuator tells what has happened. `select` tells the logs that its policy or script takes of the sealed
+/// What each step of the evacuator tells has happened. `select` tells the logs that its policy or script takes of the sealed
 /// ones, in that order. `mark` counts the pointers that gained EVAC, which stand before all that lack it then, and names the epoch that is reached once
 /// each object of the chosen logs has it. `wait` is clear exactly where no scope from before the round is open that wasn't seen clear, and refused 18 by the
 /// first such one alone. `evacuate` counts the objects that lie in another log then, that went far, that were retired, and the logs given
@@ -167,8 +167,11 @@ pub fn drops_end_objects()
 /// its last. An `evacuate` or a `round` that is refused memory, or that the device stops, is refused 1 or 10 with counts: of what has changed so before the object at which it stopped. That is the first
 /// that lies in a chosen log then; it has DIRTY and isn't dropped, and there is no room for it if it is hot; `steps_leave` says that it is as before. What was done stays, a log is still chosen, and objects go on leaving. The phase follows from commands and replies, and 12 is answered
 /// exactly out of phase. Through any command the sealed logs keep their order, but for those that were given back, and those sealed
-/// since come last; so of two that were sealed by different commands the first is the older. The heap's epoch is the one that a
+/// since come last; so of two that were sealed by different commands the first is the older. Two that one command sealed may be in either order. The heap's epoch is the one that a
 /// marking tells, and no other step but a round spends one; in the last epoch, idle, a choice of logs is refused 13, whatever is sealed.
+///
+/// Which objects move and which go far, and which free log is opened for one that moves, isn't said here: that is in the walk by which the outputs are defined, of which
+/// `objects_go_their_way` of far_evac tells it.
 pub fn steps_are_told()
     ensures told { StepsAreTold }
     ensures ages { AgesStay }

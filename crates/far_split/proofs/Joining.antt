@@ -13,10 +13,11 @@ use Rattle.far_heap.specs.HeapId.{HeapId}
 use Rattle.far_replay.specs.Alone.{nothing}
 use Rattle.far_replay.specs.Answers.{is_true}
 use Rattle.far_reply.specs.Reply.{IsShort, Reply}
-use Rattle.far_split.specs.FarSides.{FarSide, IsFlawed}
+use Rattle.far_replay.specs.Flawed.{IsFlawed}
+use Rattle.far_split.specs.FarSides.{FarSide}
 use Rattle.far_split.specs.Here.{AloneOn}
 use Rattle.far_split.specs.Jobs.{AreEnds, AreStops, EndsSo, IsPart, IsStop, Joins, StopsSo}
-use Rattle.far_split.specs.Joined.{AllRan, AreShort, IsFault, MayStop, RanSo, as_joined, commands_in, who_at}
+use Rattle.far_split.specs.Joined.{AllRan, AreShort, IsFault, IsFaultAfter, MayStop, RanSo, as_joined, commands_in, who_at}
 use Rattle.far_split.specs.declared.gate.TheConstants.{THE_BOOK}
 use Rattle.far_split.specs.declared.mutators.Stop.{Stop}
 use Rattle.far_split.specs.declared.mutators.Stop.TheVariants as stops
@@ -107,11 +108,11 @@ module _ (refuses : ℕ → ℕ → Type 0) (heap : HeapId) (lines : List (ℕ �
     by true is = inr (refl, stop.told (omega (arith, eqb-true (at + 1) (heap.mutators + 1) is)))
     by false is = let below : at < heap.mutators = omega (arith, lt, eqb-false (at + 1) (heap.mutators + 1) is) in inl (below, stop.alone below)
 
-  pub may_stop : (ends : List End) (fault : SplitFault) → AreEnds heap lines ends → AreStops refuses heap lines ends → (fault ≡ faults.Memory) ⊎ IsFault ends (Some fault)
+  pub may_stop : (ends : List End) (fault : SplitFault) → AreEnds heap lines ends → AreStops refuses heap lines ends → IsFaultAfter ends fault
       → MayStop refuses heap.mutators lines fault
   may_stop ends faults.Memory are stop is = tt
-  may_stop ends (faults.Gate who) are stop (inl memory) = absurd cc
-  may_stop ends (faults.Gate who) are stop (inr (at, stopped, none, named)) =
+  may_stop ends (faults.Gate who) are stop (inr (memory, none)) = absurd cc
+  may_stop ends (faults.Gate who) are stop (inl (at, stopped, none, named)) =
       let same : who ≡ who_at (heap.mutators + 1) at = named ∙ ap (λ many. who_at many at) are.many in
       let here = subst (StopsSo refuses heap lines at) (stopped.1 (Err stops.Gate)) (stop at (Err stops.Gate) stopped.0) in
       subst (λ (k : ℕ). MayStop refuses heap.mutators lines (faults.Gate k)) (sym same) (named_at at (omega (arith, stopped.0, are.many)) here)
@@ -127,7 +128,7 @@ all_are_short heap lines ends (Ok out) are joins = are_short heap lines ends out
 all_are_short heap lines ends (Err fault) are joins = tt
 
 pub all_may_stop : (refuses : ℕ → ℕ → Type 0) (heap : HeapId) (lines : List (ℕ × Command)) (ends : List End) (result : Result SplitOut SplitFault) → AreEnds heap lines ends → AreStops refuses heap lines ends
-    → IfErr result (λ fault. (fault ≡ faults.Memory) ⊎ IsFault ends (Some fault)) → IfErr result (MayStop refuses heap.mutators lines)
+    → IfErr result (IsFaultAfter ends) → IfErr result (MayStop refuses heap.mutators lines)
 all_may_stop refuses heap lines ends (Ok out) are stop is = tt
 all_may_stop refuses heap lines ends (Err fault) are stop is = may_stop refuses heap lines ends fault are stop is
 

@@ -3,6 +3,7 @@ pub mod Answered
 pub mod Beginning
 pub mod BookSaid
 pub mod CellsSaid
+pub mod FaultRows
 pub mod Faults
 pub mod Joining
 pub mod Keeping

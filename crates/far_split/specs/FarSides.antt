@@ -1,4 +1,4 @@
--- The far side of the heap that a split text runs on, what its calls are, and which of them is to fail or to lie, as the text says it.
+-- The far side of the heap that a split text runs on, and what its calls are.
 use Rattle.std.specs.Prelude.{◌≡◌, ℕ, ◌-◌, ◌==◌, List, Option, Some, None, Result}
 use Rattle.far_device.specs.FailAt.{Counts}
 use Rattle.far_device.specs.Liar.{told}
@@ -7,8 +7,6 @@ use Rattle.far_device.specs.declared.fail_at.FailAt.{FailAt}
 use Rattle.far_device.specs.declared.fault.DeviceFault.{DeviceFault}
 use Rattle.far_device.specs.declared.liar.Liar.{Liar}
 use Rattle.far_device.specs.declared.mem.MemDevice.{MemDevice}
-use Rattle.far_text.specs.Command.{Device, Flawed, Fail, Short, Flip}
-use Rattle.far_replay.specs.Answers.{lie_of}
 
 -- a device in memory, of which one call may fail, or one read lie
 abbrev pub FarSide : Type 0
@@ -31,23 +29,3 @@ FarLetsGo d id e = (MemLetsGo d.inner.inner id e.inner.inner × (e.inner.left �
 -- what is under a key
 abbrev pub far_bytes : FarSide → ℕ → Option (List ℕ)
 far_bytes d = bytes_at d.inner.inner
-
--- the write or read that is to fail, by its number, counted together from 1; 0 is none
-abbrev pub failing : Option Device → ℕ
-failing None = 0
-failing (Some (Flawed Fail call)) = call
-failing (Some (Flawed Short call)) = 0
-failing (Some (Flawed Flip call)) = 0
-
--- the read that is to lie, by its number, counted from 1; 0 is none
-abbrev pub lying : Option Device → ℕ
-lying None = 0
-lying (Some (Flawed Fail call)) = 0
-lying (Some (Flawed Short call)) = call
-lying (Some (Flawed Flip call)) = call
-
--- a far side whose flaw is the one that the text says: the call that fails, the read that lies, and what it tells then
-pub record IsFlawed (device : Option Device) (side : FarSide) : Type 0 where
-  pub fails : side.inner.left ≡ failing device
-  pub lies : side.left ≡ lying device
-  pub lie : side.lie ≡ lie_of device

@@ -15,9 +15,10 @@ use Rattle.far_text.specs.Split.{SplitTrace, NothingSplit, SplitHeap}
 use Rattle.far_text.specs.Threads.{Thread, OfMutator, OfBook, lines_in}
 use Rattle.far_replay.specs.Alone.{nothing}
 use Rattle.far_replay.specs.Answers.{is_true, shape_of}
+use Rattle.far_replay.specs.Flawed.{IsFlawed}
 use Rattle.far_reply.specs.Reply.{IsShort, Reply}
 use Rattle.far_split.specs.BookTold.{BookTold}
-use Rattle.far_split.specs.FarSides.{FarSide, IsFlawed}
+use Rattle.far_split.specs.FarSides.{FarSide}
 use Rattle.far_split.specs.Here.{AloneOn, AreBy, commands_of}
 use Rattle.far_split.specs.declared.mutators.Stop.{Stop}
 use Rattle.far_split.specs.declared.mutators.Stop.TheVariants as stops
@@ -110,3 +111,7 @@ abbrev pub IsFault : {A : Type 0} → List (Result A Stop) → Option SplitFault
 IsFault ends (Some (faults.Gate who)) = (at : ℕ) × IsStopped ends stops.Gate at × ((sooner : ℕ) → sooner < at → ¬ IsStopped ends stops.Gate sooner) × (who ≡ who_at (length ends) at)
 IsFault ends (Some faults.Memory) = ((at : ℕ) × IsStopped ends stops.Memory at) × ((at : ℕ) → ¬ IsStopped ends stops.Gate at)
 IsFault ends None = (at : ℕ) (why : Stop) → ¬ IsStopped ends why at
+
+-- what is told of a call whose threads ended so: their fault; or memory, where none was stopped, and the call itself was refused it
+abbrev pub IsFaultAfter : {A : Type 0} → List (Result A Stop) → SplitFault → Type 0
+IsFaultAfter ends fault = IsFault ends (Some fault) ⊎ ((fault ≡ faults.Memory) × IsFault ends None)

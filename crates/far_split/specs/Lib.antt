@@ -1,4 +1,5 @@
 pub mod FarSides
+pub mod FaultRows
 pub mod BookSaid
 pub mod BookTold
 pub mod CellsSaid

@@ -4,8 +4,8 @@ ghost use Rattle.std.specs.Prelude.{◌≡◌, ◌<◌, IfErr, IfOk, IfNone, IfS
 ghost use Rattle.far_split.specs.Slots.{AreNoSizes, AreSizes, IsReached, IsUnreached};
 ghost use Rattle.far_word.specs.declared.refused.Refused.{Refused as any_refusal};
 
-use crate::far_side::FarSide;
 use far_heap::{HeapName, Scope};
+use far_replay::FarSide;
 use far_word::{LONGEST, Refused};
 
 /// Some bytes of an object that its mutator uses: its pointer, and the range.

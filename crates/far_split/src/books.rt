@@ -11,7 +11,6 @@ ghost use Rattle.far_split.specs.Here.{commands_of};
 ghost use Rattle.far_split.specs.Jobs.{StopsBy};
 ghost use Rattle.far_split.specs.Told.{TellsFewLogs, as_reply};
 
-use crate::far_side::FarSide;
 use crate::gate::{Gate, THE_BOOK};
 use crate::inquiries::inquire;
 use crate::mutators::Stop;
@@ -19,6 +18,7 @@ use crate::replies::{Replies, Room};
 use crate::rounds::make_round;
 use crate::told::Answer;
 use far_heap::{Heap, HeapName};
+use far_replay::FarSide;
 use far_text::{Command, Inquiry, Lines, Step};
 use std::alloc::{AllocError, Global};
 use std::sync::Wait;

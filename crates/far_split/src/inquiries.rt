@@ -12,11 +12,11 @@ ghost use Rattle.far_split.specs.BookTold.{TellsLine, TellsRange, lies_far, lies
 ghost use Rattle.far_split.specs.Kept.{line_told, lines_told};
 ghost use Rattle.far_split.specs.Told.{TellsFewLogs, as_reply};
 
-use crate::far_side::FarSide;
 use crate::told::{Answer, LogWords};
 use far_book::Home;
 use far_evac::{Housed, LogState};
 use far_heap::{Evacuator, Heap, HeapName};
+use far_replay::FarSide;
 use far_reply::Counts;
 use far_text::Inquiry;
 use far_word::Refused;

@@ -2,6 +2,7 @@
 
 ghost use Rattle.far_split.specs.BookSaid.{BookIsToldSo, RoundsAreRefusedSo, SumsAreTold};
 ghost use Rattle.far_split.specs.CellsSaid.{MutatorsAreToldSo, NoneLacksMemory, WordsAreOfObjects};
+ghost use Rattle.far_split.specs.FaultRows.{FaultsAreInOrder};
 ghost use Rattle.far_split.specs.Here.{AloneIsAloneHere, AloneOnIsAloneHere, HonestIsAllowed, UnhinderedIsAlone};
 ghost use Rattle.far_split.specs.Served.{HinderedIsRefused, NeverDamaged, ReadsAreAsLong, RefusalsAreLawful, ServedIsAlone, UnrefusedIsAlone};
 
@@ -32,6 +33,12 @@ pub fn mutators_are_told_so()
     ensures cells { MutatorsAreToldSo }
     ensures words { WordsAreOfObjects }
     ensures memory { NoneLacksMemory }
+{}
+
+/// Which fault is told where threads ended in several ways, in numerals: the no of a gate, though a thread before it was refused memory; of several the least mutator's, the book's last;
+/// and memory where no gate said no.
+pub fn faults_are_in_order()
+    ensures { FaultsAreInOrder }
 {}
 
 /// What the book's lines are told, by what is asked and told alone: each is told one thing. Logs are told by number, from 0 on, or the one that is asked for, and each line of a

@@ -5,7 +5,6 @@
 
 mod access;
 mod books;
-mod far_side;
 mod gate;
 mod inquiries;
 mod laws;
@@ -18,7 +17,7 @@ mod split_out;
 mod told;
 
 pub use gate::{Gate, NoGate, THE_BOOK};
-pub use laws::{book_is_told_so, mutators_are_alone, mutators_are_told_so};
+pub use laws::{book_is_told_so, faults_are_in_order, mutators_are_alone, mutators_are_told_so};
 pub use replies::Replies;
 pub use run::{SplitFault, run_split};
 pub use split_out::SplitOut;

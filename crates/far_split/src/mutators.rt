@@ -10,11 +10,11 @@ ghost use Rattle.far_text.specs.Threads.{OfMutator};
 ghost use Rattle.far_split.specs.Here.{AloneOn, commands_of};
 ghost use Rattle.far_split.specs.Jobs.{StopsBy};
 
-use crate::far_side::FarSide;
 use crate::gate::Gate;
 use crate::replies::{Replies, Room};
 use crate::slot::Slot;
 use far_heap::{HeapName, Mutator};
+use far_replay::FarSide;
 use far_text::{Command, Lines, Request};
 use far_word::LONGEST;
 use std::alloc::Global;

@@ -8,11 +8,11 @@ ghost use Rattle.far_reply.specs.Reply.{IsShort};
 ghost use Rattle.far_split.specs.BookTold.{EndsRound, StopsRound, TellsLine};
 ghost use Rattle.far_split.specs.Told.{TellsFewLogs, as_reply};
 
-use crate::far_side::FarSide;
 use crate::told::Answer;
 use far_evac::{EvacFault, Progress, RoundEnd};
 use far_heap::{Heap, HeapName};
 use far_policy::{LeastLive, Oldest};
+use far_replay::FarSide;
 use far_text::Policy;
 use far_word::Refused;
 use std::sync::Wait;

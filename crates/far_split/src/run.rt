@@ -1,28 +1,28 @@
 //! A split text is run: each mutator's lines in a thread of its own, the book's in another.
 
-ghost use Rattle.std.specs.Prelude.{◌≡◌, ◌⊎◌, ◌<◌, ◌≤◌, ℕ, Option, false, [], length, map, None, Some, Ok, IfErr, IfOk, IsOk};
+ghost use Rattle.std.specs.Prelude.{◌≡◌, ◌<◌, ◌≤◌, ℕ, Option, false, [], length, map, None, Some, Ok, IfErr, IfOk, IsOk};
 ghost use Rattle.far_text.specs.declared.text.TheConstants.{LONGEST_TEXT};
 ghost use Rattle.std.specs.Option.{option_map};
 ghost use Rattle.far_text.specs.Command.{as_device, Device as SaidDevice};
 ghost use Rattle.far_replay.specs.Answers.{is_true};
-ghost use Rattle.far_split.specs.FarSides.{IsFlawed};
+ghost use Rattle.far_replay.specs.Flawed.{IsFlawed};
 ghost use Rattle.far_text.specs.Split.{split_of, SplitHeap};
 ghost use Rattle.far_text.specs.SplitText.{AreOwn};
 ghost use Rattle.far_text.specs.Threads.{Thread as AnyThread, lines_in};
 ghost use Rattle.far_hand.specs.ShapeOf.{shape_of as shape_in};
 ghost use Rattle.far_table.specs.BookSeats.{seat_view};
 ghost use Rattle.far_heap.specs.Blanks.{IsUnused, newcomers};
-ghost use Rattle.far_split.specs.Joined.{AreShort, IsFault, MayEnd, MayStop, RanSo, SplitAnswers, as_joined, who_at};
+ghost use Rattle.far_split.specs.Joined.{AreShort, IsFault, IsFaultAfter, MayEnd, MayStop, RanSo, SplitAnswers, as_joined, who_at};
 ghost use Rattle.far_split.specs.Jobs.{AreEnds, AreJobs, AreStops, EndsSo, IsJobAt, Joins, StopsSo};
 
 use crate::books::make_book_lines;
-use crate::far_side::{FarSide, far_side_of};
 use crate::gate::{Gate, THE_BOOK};
 use crate::mutators::{Stop, make_lines};
 use crate::replies::Replies;
 use crate::split_out::SplitOut;
 use far_core::Shape;
 use far_heap::{Blank, Heap, HeapName, Mutator};
+use far_replay::{FarSide, far_side_of};
 use far_text::{Device, ParseError, SplitText, SplitTrace, Thread, parse_split, splitting_is_said};
 use far_word::Refused;
 use std::alloc::{AllocError, Global};
@@ -175,12 +175,12 @@ fn parts_of(alloc: Global, mut ends: Vec<End>) -> Result<Vec<Replies>, AllocErro
     Ok(parts)
 }
 
-// What all threads were answered, the book's last; or the fault that they ended with.
+// What all threads were answered, the book's last; or the fault that they ended with: memory only if no thread was stopped by its gate.
 fn join(alloc: Global, ends: Vec<End>) -> Result<SplitOut, SplitFault>
     requires some { 0 < length ends.items }
     requires few { length ends.items < 256 }
     ensures joined { IfOk result (Joins ends.items) }
-    ensures fault { IfErr result (λ fault. (fault ≡ SplitFault.Memory) ⊎ IsFault ends.items (Some fault)) }
+    ensures fault { IfErr result (IsFaultAfter ends.items) }
 {
     if let Some(fault) = fault_of(&ends) {
         return Err(fault);

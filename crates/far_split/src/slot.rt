@@ -7,9 +7,9 @@ ghost use Rattle.far_split.specs.Slots.{Answers, mine_in, needs_scope};
 ghost use Rattle.far_split.specs.Told.{as_reply};
 
 use crate::access::{pointer_of, reach, sizes_of};
-use crate::far_side::FarSide;
 use crate::told::Answer;
 use far_heap::{HeapName, Mutator, Scope, Tried};
+use far_replay::FarSide;
 use far_text::Request;
 use far_word::Refused;
 use std::alloc::{AllocError, Global};

@@ -1,14 +1,14 @@
 -- What a word in hex decodes to.
-use Rattle.std.proofs.Common.{◌≡◌, ℕ, ◌*◌, ◌%◌, ◌<◌, ◌≤◌, ◌==◌, ◌&&◌, nat_lt, nat_le, List, [], length, true, Ok, Err, Result, Some, None, eq-eqb, sym, ◌∙◌, ap, refl, arith}
+use Rattle.std.proofs.Common.{◌≡◌, ℕ, ◌*◌, ◌%◌, ◌<◌, ◌≤◌, ◌==◌, ◌&&◌, nat_lt, nat_le, List, [], length, true, Ok, Err, Result, Some, None, cond, eq-eqb, sym, ◌∙◌, ap, refl, arith}
 use Rattle.std.specs.List.{list_all}
-use Rattle.std.specs.Result.{result_unwrap_or}
+use Rattle.std.specs.Result.{result_unwrap_or, MatchResult, is_ok}
 use Rattle.hex.specs.declared.error.FromHexError.{FromHexError}
 use Rattle.std.proofs.lemmas.Bool.{cond_both}
 use Rattle.std.proofs.lemmas.Bool.{and_parts, eqb-true, leb-true, le-leb}
 use Rattle.std.proofs.lemmas.Bool.Decides.{Decides-ltb}
 use Rattle.std.proofs.lemmas.List.Sums.{AllPass-from_list_all, list_all-from_AllPass}
-use Rattle.hex.specs.Hex.{decode_of, is_hex_digit}
-use Rattle.hex.proofs.HexLemmas.{decode_of-digits, decode_of-ok}
+use Rattle.hex.specs.Hex.{decode_of, decode_sized, is_hex_digit}
+use Rattle.hex.proofs.HexLemmas.{decode_of-digits, decode_of-ok, decode_sized-twice}
 use Rattle.far_text.specs.declared.hex_word.TheConstants.{LONGEST_LINE}
 use Rattle.far_text.specs.HexWord.{is_hex_word, hex_bytes}
 use Rattle.far_text.specs.Grammar.{bytes_in}
@@ -52,8 +52,16 @@ spelled_is_hex w bytes h =
     rw (some, most, even, all, h.0) refl
 
 -- what doesn't decode is no word in hex
-pub not_decoded : (w : List ℕ) (e : FromHexError) → decode_of w ≡ Err e → bytes_in w ≡ None
+not_decoded : (w : List ℕ) (e : FromHexError) → decode_of w ≡ Err e → bytes_in w ≡ None
 not_decoded w e h = cond_both (is_hex_word w) (Some (hex_bytes w)) None (λ o. o ≡ None) (λ is. let odd : Ok (hex_bytes w) ≡ Err e = sym (hex_decodes w is).0 ∙ h in absurd cc) (λ _. refl)
+
+-- what decoding into a buffer for half as many bytes as there are digits gives
+pub decoded_is : {U : Type 0} (u : U) (w new : List ℕ) (n : ℕ) (r : Result U FromHexError) (d : Result (List ℕ) FromHexError) → decode_sized w n ≡ d → length w ≡ 2 * n → 0 < n → length w ≤ LONGEST_LINE
+    → MatchResult d (λ bytes. (r ≡ Ok u) × (new ≡ bytes)) (λ e. r ≡ Err e) → bytes_in w ≡ cond (is_ok r) (Some new) None
+decoded_is u w new n r (Ok bytes) is twice some most h =
+    let all : decode_of w ≡ Ok bytes = sym (decode_sized-twice w n twice) ∙ is in
+    rw (h.0, h.1) (spelled_is_hex w bytes (all, omega (arith, decode_of-ok w bytes all), most))
+decoded_is u w new n r (Err e) is twice some most h = rw h (not_decoded w e (sym (decode_sized-twice w n twice) ∙ is))
 
 -- a word in hex has two digits a byte
 pub twice_as_long : (w bytes : List ℕ) → bytes_in w ≡ Some bytes → length w ≡ 2 * length bytes

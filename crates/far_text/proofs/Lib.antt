@@ -1,7 +1,6 @@
 pub mod Cuts
 pub mod Each
 pub mod HexLemmas
-pub mod HexPairs
 pub mod HexRooms
 pub mod LastWord
 pub mod LineLemmas

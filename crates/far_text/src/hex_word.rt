@@ -4,7 +4,6 @@ ghost use Rattle.std.specs.Prelude.{◌≡◌, ◌≤◌, ◌<◌, ◌+◌, ◌*
 ghost use Rattle.far_text.specs.Grammar.{bytes_in};
 ghost use Rattle.far_text.specs.declared.hex_word.TheConstants.{LONGEST_LINE, LONGEST_BYTES};
 
-use crate::digits::pair;
 use std::alloc::{AllocError, Global};
 use std::marker::Model;
 
@@ -38,13 +37,7 @@ fn decode(word: &[u8], buffer: &mut [u8]) -> bool
     requires twice { length word.now ≡ 2 * length buffer.old }
     ensures { bytes_in word.now ≡ cond result (Some buffer.new) None }
 {
-    'bytes: for i in 0..buffer.len() {
-        let Some(byte) = pair(word[2 * i], word[2 * i + 1]) else {
-            return false;
-        };
-        buffer[i] = byte;
-    }
-    true
+    hex::decode_to_slice(word, buffer).is_ok()
 }
 
 // Enlarges the buffer if it is too small, and fills as much as is asked for and some more: below 2,048 bytes libc's

@@ -8,7 +8,6 @@ mod adding;
 mod command;
 mod commands;
 mod cursor;
-mod digits;
 mod hex_word;
 mod laws;
 mod line;

@@ -274,7 +274,7 @@ audit near 2 far 0 live 4112
 ",
 };
 
-// Its first read gives a byte too few: the object stays far, and comes when it is asked for again.
+// Its first read gives a byte too few: the object stays far, and comes when it is asked for again. One that was never far has what was written.
 const READS_SHORT: Row = Row {
     text: "\
 heap 4 1
@@ -285,9 +285,11 @@ round oldest 1 9
 open 0
 read 0 0 0 8
 read 0 0 0 8
+write 0 1 4086 aabb
+read 0 1 4085 3
 audit
 ",
-    order: &[0, 0, B, 0, 0, 0, B],
+    order: &[0, 0, B, 0, 0, 0, 0, 0, B],
     told: "\
 mutator 0
 pointer 0
@@ -295,6 +297,8 @@ pointer 1
 ok
 refused 11
 data 0000000000000000
+ok
+data 00aabb
 book
 round done moved 0 far 1 dropped 0 freed 1
 audit near 2 far 0 live 4112

@@ -1,11 +1,11 @@
-use Rattle.std.proofs.Common.{◌∙◌, None, Some, ap, arith, inr, length, map, subst}
+use Rattle.std.proofs.Common.{◌∙◌, None, Some, ap, arith, inl, inr, length, refl, map, subst}
 use Rattle.std.proofs.lemmas.List.{length-map}
 use Rattle.far_split.specs.Joined.{IsFault}
 use Rattle.far_split.proofs.Joining.{answered}
 use Rattle.far_split.proofs.run.join.Goals as goal
 
 pub returns-in-Some-clause-fault : goal.returns-in-Some-clause-fault
-returns-in-Some-clause-fault c = inr (subst (λ ends. IsFault ends (Some c.in-Some.fault)) c.deref.ensures.value c.in-Some.ensures)
+returns-in-Some-clause-fault c = inl (subst (λ ends. IsFault ends (Some c.in-Some.fault)) c.deref.ensures.value c.in-Some.ensures)
 
 pub parts_of-requires : goal.parts_of-requires
 parts_of-requires c = subst (λ ends. IsFault ends None) c.deref.ensures.value c.in_default.ensures

@@ -1,9 +1,9 @@
 use Rattle.std.proofs.Common.{ap, sym, ◌∙◌}
 use Rattle.far_text.specs.declared.command.Flaw.TheVariants.{Fail, Short, Flip}
 use Rattle.far_replay.specs.Answers.{lie_of}
+use Rattle.far_replay.specs.Flawed.{failing, lying}
 use Rattle.far_replay.proofs.FarSides.{fail_is, flip_is, said_so, short_is}
-use Rattle.far_split.specs.FarSides.{failing, lying}
-use Rattle.far_split.proofs.far_side.far_side_of.Goals as goal
+use Rattle.far_replay.proofs.far_side.far_side_of.Goals as goal
 
 pub returns-in-Fail : goal.returns-in-Fail
 returns-in-Fail c = let said = said_so c.args.device c.in-Some.device Fail c.in-Some.is c.in-Fail.is in record {
