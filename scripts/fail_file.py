@@ -24,6 +24,8 @@ HERE = os.path.dirname(os.path.abspath(__file__))
 LIMITS = (0, 1, 100, 4_096, 4_200, 16_384, 200_400, 1_120_000, 1_300_123, 2_097_152, 1 << 23)
 # Of the first calls each, and then some.
 CALLS = (*range(1, 33), *range(33, 1_000, 149), 1 << 40)
+# Each is of either shard.
+READS = range(100, 900, 100)
 ASKED = ("8", "2", "1000", "400", "1")
 # An object has 256 bytes, four records: the first byte, the last, and some between them.
 FLIPPED = (1, 64, 65, 130, 256)
@@ -132,8 +134,9 @@ def store_fails(program: str, library: str) -> None:
     for nth in CALLS:
         came = run(program, "far", *ASKED, LD_PRELOAD=library, FAIL_CALL=str(nth), FAIL_SHORT="1")
         expect(f"call {nth} does half", is_whole(came), came)
-    came = run(program, "far", *ENDLESS, LD_PRELOAD=library, FAIL_CALL="300", FAIL_READS="1")
-    expect("one of two shards fails", is_stopped(came, FAILED), came)
+    for nth in READS:
+        came = run(program, "far", *ENDLESS, LD_PRELOAD=library, FAIL_CALL=str(nth), FAIL_READS="1")
+        expect(f"read {nth}, of one of two shards", is_stopped(came, FAILED), came)
     came = run(program, "far", *ASKED, LD_PRELOAD=library, FAIL_THREAD="1")
     expect("no thread", is_stopped(came, "no thread could be made"), came)
     for nth in range(2, 5):
