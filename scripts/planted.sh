@@ -5,7 +5,7 @@
 #     scripts/planted.sh CRATE [SHARE]     SHARE as 2/3: the second third of the edits, so that several run side by side
 #
 # Prints what became of each edit, and at the end the names of those that were not refused; the status is then 1. The
-# copy lies below /tmp and is removed at the end.
+# copy lies below /tmp and is removed at the end. An edit with a line `test:` is left out: it is proved, and the test or script that the line names refuses it.
 set -euo pipefail
 crate="${1:?scripts/planted.sh CRATE [SHARE]}"
 share="${2:-1/1}"
@@ -17,7 +17,7 @@ trap 'rm -rf "$work"' EXIT
 cp -a "$root/." "$work"
 cd "$work"
 # (edits that begin in a crate below are planted_together.py's)
-mapfile -t edits < <(grep -L '^file: \.\./' "crates/$crate/planted/"*.edit)
+mapfile -t edits < <(grep -LE '^(file: \.\./|test: )' "crates/$crate/planted/"*.edit)
 first=$(((${share%/*} - 1) * ${#edits[@]} / ${share#*/}))
 end=$((${share%/*} * ${#edits[@]} / ${share#*/}))
 ((first < end)) || exit 0

@@ -5,7 +5,8 @@
 
 A function is proved over the contracts of those that it calls. So edits of different functions are made together, and what
 each edit's own function owes then says whether the edit is refused. An edit that begins in a crate below, in code and
-definition alike (`file: ../CRATE/..`), is made alone, and refused where that crate is proved and this one isn't.
+definition alike (`file: ../CRATE/..`), is made alone, and refused where that crate is proved and this one isn't. One with a
+line `test:` is left out: it is proved, and the test or script that the line names refuses it.
 scripts/planted.sh tries one after the other, and is needed for edits of definitions, constants and types, which are named
 at the end.
 
@@ -128,7 +129,8 @@ def main(name, *names):
         # what was checked lies in out/, and is copied too
         copy = pathlib.Path(shutil.copytree(ROOT, f"{folder}/copy", symlinks=True))
         crate = copy / "crates" / name
-        edits = [Edit(it, crate) for it in sorted((crate / "planted").glob("*.edit")) if not names or it.stem in names]
+        paths = [it for it in sorted((crate / "planted").glob("*.edit")) if not names or it.stem in names]
+        edits = [Edit(it, crate) for it in paths if not re.search("^test: ", it.read_text(), re.M)]
         missed = 0
         for group in grouped([it for it in edits if it.is_whole]):
             said = checked(crate, group)

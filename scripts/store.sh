@@ -1,6 +1,7 @@
 #!/usr/bin/env bash
-# Runs the built far_store over memory and over a file: few and many logs, one shard, two and eight; then with arguments that it must refuse, and where nothing
-# can be printed. What was put is worked out here once more. Prints only what is wrong. usage: store.sh [PROGRAM]
+# Runs the built far_store over memory and over a file: few and many logs, one shard, two and eight; then with arguments that it must refuse, where nothing
+# can be printed, and where standard streams are closed: the file stands for none of them, nobody but its owner may read it, and each shard has a thread. What was
+# put is worked out here once more. Prints only what is wrong. usage: store.sh [PROGRAM]
 set -euo pipefail
 here="$(cd "$(dirname "${BASH_SOURCE[0]}")" && pwd)"
 program="$(realpath "${1:-$here/../crates/far_store/out/far_store}")"
@@ -80,6 +81,7 @@ for words in '' memory 'memory 8 2 500 2000' 'memory 7 2 500 2000 7' 'memory 65 
     'memory 8 2 0 2000 7' 'memory 8 2 2049 2000 7' 'memory 8 2 500 x 7' 'memory 8 2 500 2000 -7' 'memory 8 2 500 2000 7 told' 'memory 8 2 500 2000 7 tell 1'; do
     expect "'$words'" 2 '' "$usage" $words
 done
+expect "'+8' and '01'" 0 'records 500 operations 20 wrong 0' '' memory +8 01 500 20 7
 expect 'no text' 2 '' "$usage" memory 8 2 500 2000 7 $'\xff'
 got=0
 "$program" memory 8 2 500 2000 7 >/dev/full 2>err || got=$?
@@ -87,6 +89,37 @@ if [[ "$got" != 1 || -s err ]]; then
     echo "store: nothing can be printed: status $got, stderr '$(cat err)'" >&2
     wrong=1
 fi
+
+running() { # of a run over the file low: its threads, the file's descriptor, and its mode once it has lost its name
+    local place
+    sed -n 's/^Threads:[[:space:]]*//p' "/proc/$1/status"
+    for place in "/proc/$1/fd/"*; do
+        [[ "$(readlink "$place")" != "$work/low (deleted)" ]] || echo "${place##*/} $(stat -Lc %a "$place")"
+    done
+}
+
+# one thread for rounds and one for each shard, of which the first may have the one that begins
+right='^(9|10) ([3-9]|[1-9][0-9]+) 600$'
+for streams in 0 1 2 '0 1 2'; do
+    (
+        umask 0
+        for it in $streams; do exec {it}>&-; done
+        exec "$program" low 8 8 1000 18446744073709551615 7
+    ) >out 2>err &
+    pid=$!
+    found=''
+    for _ in {1..200}; do
+        found="$(running $pid 2>/dev/null | paste -s -d ' ')"
+        [[ ! "$found" =~ $right ]] || break
+        sleep 0.05
+    done
+    kill $pid
+    wait $pid 2>/dev/null || true
+    if [[ ! "$found" =~ $right ]]; then
+        echo "store: streams $streams closed: threads, descriptor and mode: $found" >&2
+        wrong=1
+    fi
+done
 echo kept >there
 expect 'a file that is there' 3 '' 'far_store: there: File exists (os error 17)' there 8 2 500 2000 7
 expect 'no such folder' 3 '' 'far_store: no/such: No such file or directory (os error 2)' no/such 8 2 500 2000 7

@@ -3,9 +3,14 @@
 ghost use Rattle.std.specs.Prelude.{◌≡◌, true, false, not};
 ghost use Rattle.std.specs.Fs.{asks_read, asks_write, asks_append, asks_truncate, asks_create, asks_create_new};
 
-use std::fs::{Files, OpenOptions};
+use std::fs::{File, Files, OpenOptions};
 use std::io;
+use std::os::fd::AsRawFd;
+use std::os::unix::fs::OpenOptionsExt;
 use std::path::AsPath;
+
+/// The descriptors up to this one are standard input, output and errors.
+const LAST_STREAM: i32 = 2;
 
 /// How the file of a device is made: an empty one, read and written.
 #[derive(Clone, Copy, Debug, PartialEq, Eq)]
@@ -28,9 +33,15 @@ impl NewFile {
         NewFile { replaces: true }
     }
 
-    /// Makes the file and opens it. Nobody else may use it while the device does, and it isn't taken away afterwards.
-    pub fn open<R: Files, P: AsPath>(self, files: &R, path: P) -> io::Result<R::File> {
-        self.options().open(files, path)
+    /// Makes the file and opens it, for its owner alone: nobody else may read it, unless it was there before. Nobody else may use it while the device does, and it
+    /// isn't taken away afterwards. Where standard input, output or errors are closed, it doesn't stand for them.
+    pub fn open<R: Files<File = File>, P: AsPath>(self, files: &R, path: P) -> io::Result<File> {
+        let file = self.options().open(files, path)?;
+        if file.as_raw_fd() > LAST_STREAM {
+            return Ok(file);
+        }
+        // What is printed would go into it. Another descriptor of it is above these.
+        file.try_clone()
     }
 
     // What the system is asked for.
@@ -43,6 +54,9 @@ impl NewFile {
         ensures create_new { asks_create_new result ≡ not self.replaces }
     {
         let mut options = OpenOptions::new();
+        // No contract says what `mode` leaves as it is, so all else is set after it.
+        options.mode(0o600);
+        options.append(false);
         options.read(true);
         options.write(true);
         options.truncate(self.replaces);

@@ -67,7 +67,10 @@ fn over_file<R: Files<File = File> + AllocGlobal + Print + Eprint + Threads + Wa
             return ExitCode::from(3);
         }
     };
-    let _ = fs::remove_file(rt, name);
+    if let Err(why) = fs::remove_file(rt, name) {
+        let _ = eprintln!(rt; "far_store: {name} keeps its name: {why}");
+        return ExitCode::from(3);
+    }
     let ended = over_storage(rt, rt.alloc(), file, asked);
     status(rt, ended, tells)
 }

@@ -1,6 +1,6 @@
 //! A store: shards in threads, and a thread that keeps logs free for them.
 
-ghost use Rattle.std.specs.Prelude.{◌≡◌, ◌↔◌, ◌⊎◌, ◌≤◌, ◌<◌, ◌+◌, ◌*◌, ℕ, min, true, List, map, sum, Ok, Err, Contains, IfOk, IfErr};
+ghost use Rattle.std.specs.Prelude.{◌≡◌, ◌↔◌, ◌⊎◌, ◌≤◌, ◌<◌, ◌+◌, ◌*◌, ℕ, min, true, List, map, sum, Ok, Err, Contains, IfOk, IfErr, IfSome};
 ghost use Rattle.std.specs.Vec.{vec_len};
 ghost use Rattle.far_evac.specs.declared.answers.Progress.{Progress as progress};
 ghost use Rattle.far_store.specs.Counting.{counted_with, counts_told, told, wrong_told};
@@ -17,7 +17,7 @@ use crate::shard::StoreFault;
 use far_core::Shape;
 use far_device::Device;
 use far_evac::EvacFault;
-use far_file::{FileDevice, FileFault, LastFault, Storage};
+use far_file::{Digest, FileFault, LastFault, SealedDevice, Storage};
 use far_heap::{Blank, Heap, HeapName, Mutator};
 use far_policy::Oldest;
 use far_signs::{Found, Signs};
@@ -163,6 +163,19 @@ fn sum_of(shards: &[Result<Told, StoreFault>]) -> Result<Told, StoreFault>
     Ok(all)
 }
 
+// Why one was refused, unless for want of room: that those are whose work ends since another was.
+fn cause(shards: &[Result<Told, StoreFault>]) -> Option<StoreFault>
+    ensures { IfSome result (λ why. Contains shards.now (Err why)) }
+{
+    for shard in shards {
+        match shard {
+            Ok(_) | Err(StoreFault::Heap(Refused::NoRoom)) => {}
+            Err(why) => return Some(*why),
+        }
+    }
+    None
+}
+
 // What came of all threads' work. What the shards' calls took and what the rounds did is counted, each once.
 fn ended(
     worked: Result<Vec<Result<Told, StoreFault>>, AllocError>,
@@ -187,11 +200,11 @@ fn ended(
             counts: told.counts.with(counts),
             ..told
         }),
-        Err(why) => Err(RunFault::Shard(why)),
+        Err(why) => Err(RunFault::Shard(cause(&shards).unwrap_or(why))),
     }
 }
 
-// All shards' work, each in a thread of its own; where none can be made one after the other, since none waits for another.
+// All shards' work, each in a thread of its own; where none can be made one after the other, since none waits for another. Once one was refused, no more room is made.
 fn work_all<K: HeapName + Send + Sync, D: Device + Drop + Send, R: Threads + Wait + Sync>(
     rt: &R,
     alloc: Global,
@@ -206,7 +219,14 @@ fn work_all<K: HeapName + Send + Sync, D: Device + Drop + Send, R: Threads + Wai
         ensures right { K.heap.honest ≡ true → IsRight result }
         ensures made { IsMade job.operations result }
         ensures records { IsRead job.part.count result }
-    { work(rt, alloc, signs, job) };
+    {
+        let told = work(rt, alloc, signs, job);
+        if told.is_err() {
+            // The others end as soon as they want room.
+            signs.end_work(rt);
+        }
+        told
+    };
     thread::map_vec(rt, jobs, &each)
 }
 
@@ -330,7 +350,8 @@ fn with_reason(ended: Result<Told, RunFault>, last: &LastFault) -> Result<Told, 
     ended
 }
 
-/// The same over storage, as a file is: if the storage is honest, no record had other bytes.
+/// The same over storage, as a file is: if the storage is honest, no record had other bytes. If it gives other bytes than were put, that is told as a fault, but for those that
+/// have the same [`Digest`].
 pub fn over_storage<F: Storage + Drop + Send, R: Threads + Wait + Sync>(
     rt: &R,
     alloc: Global,
@@ -341,7 +362,7 @@ pub fn over_storage<F: Storage + Drop + Send, R: Threads + Wait + Sync>(
     ensures made { IsMade asked.operations result }
     ensures records { IsRead asked.records result }
 {
-    let mut device = FileDevice::<F>::new(alloc, storage);
+    let mut device = SealedDevice::<F, Digest>::new(alloc, storage);
     let Ok(last) = device.last_fault() else {
         return Err(RunFault::Heap(Refused::Memory));
     };

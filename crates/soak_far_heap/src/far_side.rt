@@ -30,11 +30,21 @@ impl FarSide {
 /// What a file is called until it is open.
 const NAME: &str = "soak_far_heap.far";
 
-/// A device over a new file, which has lost its name.
-pub fn on_disk<R: Files<File = File>>(rt: &R, alloc: Global) -> Option<SealedDevice<File, Digest>> {
-    let Ok(file) = NewFile::new().open(rt, NAME) else {
-        return None;
+/// A device over a new file, which has lost its name. `None`, and why is told, where the file can't be made, or keeps its name.
+pub fn on_disk<R: Files<File = File> + Eprint>(
+    rt: &R,
+    alloc: Global,
+) -> Option<SealedDevice<File, Digest>> {
+    let file = match NewFile::new().open(rt, NAME) {
+        Ok(file) => file,
+        Err(why) => {
+            let _ = eprintln!(rt; "soak_far_heap: {NAME}: {why}");
+            return None;
+        }
     };
-    let _ = fs::remove_file(rt, NAME);
+    if let Err(why) = fs::remove_file(rt, NAME) {
+        let _ = eprintln!(rt; "soak_far_heap: {NAME} keeps its name: {why}");
+        return None;
+    }
     Some(SealedDevice::<File, Digest>::new(alloc, file))
 }

@@ -89,12 +89,13 @@ impl Gate {
         self.goes_on(0) && self.ended.load(Ordering::SeqCst) == 0
     }
 
-    /// Leaves the heap's lock to others for a while.
+    /// Leaves the heap's lock to others for a while, and the processor, if they have none.
     pub fn pause(&self) {
         for _ in 0..64u8 {
             if !self.has_mutators() {
                 return;
             }
         }
+        thread::yield_now();
     }
 }

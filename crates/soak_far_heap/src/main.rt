@@ -222,7 +222,7 @@ fn soak<D: Device + Drop + Send, R: Threads + Wait + Sync>(
 }
 
 // The same over the device that was asked for.
-fn soak_over<R: Files<File = File> + Threads + Wait + Sync>(
+fn soak_over<R: Files<File = File> + Eprint + Threads + Wait + Sync>(
     rt: &R,
     alloc: Global,
     copiers: u8,
@@ -239,7 +239,7 @@ fn soak_over<R: Files<File = File> + Threads + Wait + Sync>(
 }
 
 // The same of each heap that was asked for: of one without copiers and of one with two, unless their number was said.
-fn soak_each<R: Files<File = File> + Threads + Wait + Sync>(
+fn soak_each<R: Files<File = File> + Eprint + Threads + Wait + Sync>(
     rt: &R,
     alloc: Global,
     asked: Asked,

@@ -32,12 +32,13 @@ fn takes<D: Device>(device: &mut D, id: u32, bytes: &[u8]) -> bool {
     device.write(id, bytes).is_ok()
 }
 
-// Whether three keys keep what they were given, in place of what was there.
+// Whether three keys keep what they were given, in place of what was there, beside one far above them. Refused so: positions of a file that come round at 4 MiB.
 fn keeps_three<D: Device>(device: &mut D, alloc: Global) -> bool {
     takes(device, 5, LONGEST)
         && takes(device, 6, LONGEST)
         && takes(device, 2047, &[])
         && takes(device, 5, FIRST)
+        && takes(device, 5 + 1024, LONGEST)
         && gives(device, alloc, 5, FIRST)
         && gives(device, alloc, 6, LONGEST)
 }

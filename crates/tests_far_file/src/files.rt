@@ -9,6 +9,7 @@ use std::alloc::Global;
 use std::fs::File;
 use std::io;
 use std::io::ErrorKind;
+use std::os::unix::fs::PermissionsExt;
 use std::test::*;
 
 // Whether a device over a new file keeps what it is given.
@@ -113,11 +114,20 @@ fn a_file_that_is_there_stays_or_is_emptied(rt: HostRuntime) -> Result<(), Fail>
     Ok(())
 }
 
+// Whether a file is empty, and nobody but its owner may read it.
+fn is_new(file: &File) -> bool {
+    match file.metadata() {
+        Ok(of) => of.len() == 0 && of.permissions().mode() & 0o077 == 0,
+        Err(_) => false,
+    }
+}
+
+// Refused so: options that leave the mode out.
 #[test]
 fn a_file_is_new_or_its_folder_is_missing(rt: HostRuntime) -> Result<(), Fail> {
     let _ = std::fs::remove_file(&rt, "new");
     let file = NewFile::new().open(&rt, "new")?;
-    assert!(rt; file.metadata()?.len() == 0);
+    assert!(rt; is_new(&file));
     match NewFile::new().open(&rt, "no/folder/file") {
         Ok(_) => assert!(rt; false),
         Err(why) => assert!(rt; why.kind() == ErrorKind::NotFound),

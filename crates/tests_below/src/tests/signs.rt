@@ -48,7 +48,7 @@ enum Case {
     Asks,
     EndsWork,
     MakesLess,
-    MakesRoomTwice,
+    WakesTwice(Found),
     EndsRounds,
 }
 
@@ -65,7 +65,7 @@ fn sleeps<R: Wait>(rt: &R, signs: &Signs, back: &AtomicBool, case: Case) -> bool
         Case::Looks | Case::EndsWork => signs.rest(rt, Some(Found::Enough)),
         Case::Asks => signs.rest(rt, Some(Found::Enough)) || signs.rest(rt, Some(Found::Made)),
         Case::EndsAStep | Case::MakesLess | Case::EndsRounds => Waiter::new(signs).wait(rt),
-        Case::MakesRoomTwice => waits_twice(rt, signs),
+        Case::WakesTwice(_) => waits_twice(rt, signs),
     };
     back.store(true, Ordering::SeqCst);
     answer
@@ -107,10 +107,15 @@ fn makes_less<R: Wait>(rt: &R, signs: &Signs, back: &AtomicBool) -> bool {
     slept
 }
 
-fn makes_room_twice<R: Wait>(rt: &R, signs: &Signs, back: &AtomicBool) -> bool {
+// A step that comes to this wakes the one that asked before it; that one asks again, and a step that began before that, and finds enough, wakes nobody.
+fn wakes_twice<R: Wait>(rt: &R, signs: &Signs, back: &AtomicBool, found: Found) -> bool {
     wait_till_asked(rt, signs);
-    let _ = signs.rest(rt, Some(Found::Made));
+    let _ = signs.rest(rt, None);
+    // so that the next step's end doesn't sleep
+    signs.look(rt);
+    let _ = signs.rest(rt, Some(found));
     wait_till_asked(rt, signs);
+    let _ = signs.rest(rt, Some(Found::Enough));
     let_others_run();
     let slept = !back.load(Ordering::SeqCst);
     let _ = signs.rest(rt, Some(Found::Made));
@@ -129,7 +134,7 @@ fn goes_on<R: Wait>(rt: &R, signs: &Signs, back: &AtomicBool, case: Case) -> boo
             signs.end_work(rt);
             true
         }
-        Case::MakesRoomTwice => makes_room_twice(rt, signs, back),
+        Case::WakesTwice(found) => wakes_twice(rt, signs, back, found),
         Case::EndsRounds => {
             wait_till_asked(rt, signs);
             signs.end_rounds(rt);
@@ -185,10 +190,12 @@ fn one_that_sleeps_is_woken_by_room_alone(rt: HostRuntime) {
     assert!(rt; comes_back(&rt, Case::MakesLess, false));
 }
 
-// One that was woken, and is refused room again, asks and sleeps again. Refused so: `wait_past` that sleeps only where `seen` is 0.
+// One that was woken, and is refused room again, asks and sleeps again. Refused so: `wait_past` that sleeps only where `seen` is 0; `ends_step` that leaves `answered` as
+// it was.
 #[test]
 fn one_that_was_woken_sleeps_again(rt: HostRuntime) {
-    assert!(rt; comes_back(&rt, Case::MakesRoomTwice, false));
+    assert!(rt; comes_back(&rt, Case::WakesTwice(Found::Made), false));
+    assert!(rt; comes_back(&rt, Case::WakesTwice(Found::Enough), false));
 }
 
 // One that sleeps hears that none will be made. Refused so: `end_rounds` that notifies nobody.
