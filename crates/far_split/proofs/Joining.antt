@@ -1,6 +1,6 @@
 -- What all threads were answered, from how each ended.
 use Rattle.std.proofs.Common.{◌≡◌, ◌⊎◌, inl, inr, ℕ, suc, ◌+◌, ◌<◌, Bool, true, false, Option, Some, None, Result, Ok, Err, List, [], ◌∷◌, ◌++◌, length, length-append, get_or, ap, sym, subst, ◌∙◌, refl, arith, append_assoc}
-use Rattle.std.specs.Prelude.{IfErr, IfOk, map, ◌==◌, if◌then◌else◌}
+use Rattle.std.specs.Prelude.{IfErr, IfOk, IsErrAnd, map, ◌==◌, if◌then◌else◌}
 use Rattle.std.specs.List.{AllByRecursion, remove}
 use Rattle.std.proofs.lemmas.Bool.{eqb-false, eqb-true}
 use Rattle.std.proofs.lemmas.List.{get_or-append-add, get_or-map, get_or_append_left, get_or_default, get_or_push, length-map, map-append}
@@ -100,6 +100,11 @@ are_short heap lines ends (OutRefused why) are joins = absurd joins
 are_short heap lines ends (OutRan mutators book) are joins = all_short heap lines ends are mutators.items book joins
 
 -- ---- faults
+-- none was stopped, and the call itself was refused memory
+pub unstopped : (ends : List End) (result : Result SplitOut SplitFault) → IsErrAnd result (λ e. e ≡ faults.Memory) → IsFault ends None → IfErr result (IsFaultAfter ends)
+unstopped ends (Ok out) is none = tt
+unstopped ends (Err fault) is none = inr (is, none)
+
 module _ (refuses : ℕ → ℕ → Type 0) (heap : HeapId) (lines : List (ℕ × Command)) where
   -- who stands at a place, and was stopped there
   named_at : (at : ℕ) → at < heap.mutators + 1 → IsStop refuses heap lines at stops.Gate → MayStop refuses heap.mutators lines (faults.Gate (who_at (heap.mutators + 1) at))
