@@ -10,7 +10,7 @@ use Rattle.far_replay.specs.Outcome.{reply_by}
 use Rattle.far_reply.specs.Reply.{Reply, reply_text}
 use Rattle.far_reply.specs.Stream.{Holds}
 use Rattle.far_replay.proofs.Answering.{answered_more, answered_all, far_all, far_more, printed_more, spoiled_more}
-use Rattle.far_replay.proofs.FarSides.{flawed_left}
+use Rattle.far_replay.proofs.FarSides.{flawed_spoils}
 use Rattle.far_replay.proofs.Lasting.{still_lasts}
 use Rattle.far_replay.proofs.running.answer_commands.Goals as goal
 
@@ -31,7 +31,7 @@ loop-at-init g c =
         [],
         [],
         flaws device,
-        (c.requires.flawed.lie, flawed_left device (far_in c.args.evac) c.requires.flawed),
+        flawed_spoils device c.args.evac c.requires.flawed,
         (λ os h. h),
         (λ os rest more h. h),
         (λ os more h. h),
