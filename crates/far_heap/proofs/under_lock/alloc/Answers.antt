@@ -82,8 +82,8 @@ returns-then-adopt_new g c =
       left = λ e. absurd (made_isnt p refused.NoRoom e);
     }
 
-pub loop-preserved : goal.loop-preserved
-loop-preserved g c = (tt, tt, c.adopt_new.ensures.kept c.if-adopt_new.false ∙ c.loop.invariant.2)
+pub loop-preserved-else-adopt_new : goal.loop-preserved-else-adopt_new
+loop-preserved-else-adopt_new g c = (tt, tt, c.adopt_new.ensures.kept c.if-adopt_new.false ∙ c.loop.invariant.2)
 
 pub returns-then-bears_out : goal.returns-then-bears_out
 returns-then-bears_out g c =
@@ -100,5 +100,5 @@ returns-then-bears_out g c =
       left = λ e. subst HasLeft same (c.bears_out.ensures.left c.if-bears_out.true (why_is _ _ (Err c.in-Err.why) refl e));
     }
 
-pub loop-preserved-2 : goal.loop-preserved-2
-loop-preserved-2 g c = (tt, tt, c.loop.invariant.2)
+pub loop-preserved : goal.loop-preserved
+loop-preserved g c = (tt, tt, c.loop.invariant.2)
