@@ -19,7 +19,7 @@ use Rattle.far_evac.specs.EvacOf.{EvacOf, moment}
 use Rattle.far_evac.specs.MomentLaw.{IsLawful}
 use Rattle.far_heap.specs.Helping.{OnlyFinds, PlacesNew, cell_in, core_of, says_far}
 use Rattle.far_heap.specs.HeapId.{HeapId, heap_of}
-use Rattle.far_heap.specs.Mine.{IsNoObject, Mine, adopting, is_length, owns, uses}
+use Rattle.far_heap.specs.Mine.{HasLeft, IsNoObject, Mine, UsesAll, adopting, is_length, owns, uses}
 
 -- there was a book of this heap of which that was so: by what it knew, and in each state that the words and all views may have been in beside it; and there
 -- is such a state
@@ -79,6 +79,9 @@ pub record Allocates (D : Type 0) (heap : HeapId) (old new : Mine) (len ds : ℕ
   pub refused : IfErr result (λ why. IsNoObject len why × (new ≡ old))
   pub none : result ≡ Err why.NoPointer → BookHad D heap (NoneFree old.number)
   pub full : result ≡ Err why.NoRoom → BookHad D heap (LacksRoom old.number len)
+  -- and that for want of a pointer only if the mutator uses each of its own, for want of room only if it has one left
+  pub all : result ≡ Err why.NoPointer → UsesAll old
+  pub left : result ≡ Err why.NoRoom → HasLeft old
 
 -- ---- to drop one
 -- its cell is free

@@ -138,6 +138,13 @@ is_range len from count = nat_lt 0 count && nat_le (from + count) len
 abbrev pub access_refusal : Mine → ℕ → ℕ → ℕ → Option Refused
 access_refusal m p from count = if views m p then (if is_range (len_in m p) from count then None else Some Range) else Some NotHeld
 
+-- it has a pointer that it doesn't use; or it uses each
+abbrev pub HasLeft : Mine → Type 0
+HasLeft m = (p : ℕ) × (owns m p ≡ true) × (uses m p ≡ false)
+
+abbrev pub UsesAll : Mine → Type 0
+UsesAll m = (p : ℕ) → owns m p ≡ true → uses m p ≡ true
+
 -- ---- when a new object is refused: its length; or its owner uses all its pointers; or there is no room
 abbrev pub is_length : ℕ → Bool
 is_length len = nat_lt 0 len && nat_le len LONGEST

@@ -30,12 +30,18 @@ impl<K: HeapName, D: Device + Drop> Model for Copier<K, D> {
     ghost invariant = { λ c. IsFree K.heap c.seat };
 }
 
-/// A copier that has a job: the copy of one object, word by word. One that is dropped unfinished has the job for ever, and with it two logs.
-#[derive(Drop)]
+/// A copier that has a job: the copy of one object, word by word. It is finished when it is dropped; one that is never dropped, as by `mem::forget` or in
+/// a thread that stops, has the job for ever, and with it two logs.
 pub struct Copying<K: HeapName, D: Device + Drop> {
     seat: CopySeat<D>,
     job: Job,
     of: PhantomData<K>,
+}
+
+impl<K: HeapName, D: Device + Drop> Drop for Copying<K, D> {
+    fn drop(self) {
+        let _copier = self.finish();
+    }
 }
 
 impl<K: HeapName, D: Device + Drop> Model for Copying<K, D> {

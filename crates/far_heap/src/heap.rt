@@ -23,6 +23,9 @@ use std::alloc::{AllocError, Global};
 use std::sync::{Arc, Mutex, MutexGuard, Wait};
 use std::thread;
 
+/// How often other threads may run at most before the next turn, where turns find nothing to do.
+const MOST_PAUSES: u32 = 64;
+
 /// The lock of a heap, with what it keeps.
 pub(crate) type Lock<K, D> = Arc<Mutex<Evacuator<K, D>>, Global>;
 
@@ -81,6 +84,18 @@ fn sum(before: Progress, more: Progress, done: bool) -> Progress
         dropped: before.dropped.saturating_add(more.dropped),
         freed: before.freed.saturating_add(more.freed),
         done,
+    }
+}
+
+// Lets other threads run so many times: how many times before the next turn, if that too finds nothing to do.
+fn pause(times: u32) -> u32 {
+    for _ in 0..times {
+        thread::yield_now();
+    }
+    if times < MOST_PAUSES {
+        times * 2
+    } else {
+        times
     }
 }
 
@@ -150,7 +165,8 @@ impl<K: HeapName, D: Device + Drop> Heap<K, D> {
     }
 
     /// Makes a round: asks a policy for logs, at most `most`, and makes `turns` turns, or fewer if the round is over before. The lock is taken for the
-    /// choice, and anew for each turn; where a turn counted nothing and left the phase as it was, unless it marks, other threads run before the next.
+    /// choice, and anew for each turn; where a turn counted nothing and left the phase as it was, unless it marks, other threads may run before the
+    /// next: once, and after each further such turn twice as often, up to 64 times.
     /// [`RoundEnd::Nothing`] exactly where no log was chosen, [`RoundEnd::Done`], with the sum of what the turns did, where a turn gave the last of the round's
     /// logs back, and else [`RoundEnd::Limit`], with the phase after the last turn, or after the choice if `turns` is 0: the round goes on by
     /// [`Evacuator::turn`], or is given up by [`Evacuator::abort`]. A policy is offered sealed logs alone, those in which an object had no room, so that another
@@ -196,6 +212,7 @@ impl<K: HeapName, D: Device + Drop> Heap<K, D> {
     {
         let mut total = nothing_done();
         let mut phase = Phase::Marking;
+        let mut pauses = 1;
         for _ in 0..turns {
             let stood = phase;
             let counted = total;
@@ -209,9 +226,11 @@ impl<K: HeapName, D: Device + Drop> Heap<K, D> {
             if total.done {
                 return Ok(RoundEnd::Done(total));
             }
-            if phase == stood && phase != Phase::Marking && total == counted {
-                thread::yield_now();
-            }
+            pauses = if phase == stood && phase != Phase::Marking && total == counted {
+                pause(pauses)
+            } else {
+                1
+            };
         }
         Ok(RoundEnd::Limit(phase))
     }

@@ -10,7 +10,7 @@ ghost use Rattle.far_heap.specs.MineLaw.{MineLaw};
 ghost use Rattle.far_heap.specs.LogsStay.{LogsStay};
 ghost use Rattle.far_heap.specs.SoiledIsDirty.{SoiledIsDirty};
 ghost use Rattle.far_heap.specs.declared.view.Tried.{Tried as any_tried};
-ghost use Rattle.far_heap.specs.Mine.{IsNew, SoilsOne, TriedSo, access_refusal, adopting, asking, bytes_in, closing, dropping, ds_in, len_in, newcomer, opening, owns, uses, view_of, views, viewing, writing};
+ghost use Rattle.far_heap.specs.Mine.{HasLeft, IsNew, SoilsOne, TriedSo, UsesAll, access_refusal, adopting, asking, bytes_in, closing, dropping, ds_in, len_in, newcomer, opening, owns, uses, view_of, views, viewing, writing};
 ghost use Rattle.far_word.specs.declared.refused.Refused.{Refused as any_refusal};
 ghost use Rattle.far_word.specs.declared.sizes.TheConstants.{LONGEST, MOST_MUTATORS};
 
@@ -20,7 +20,7 @@ use crate::rows::Rows;
 use crate::view::{Tried, View};
 use far_device::Device;
 use far_table::MutSeat;
-use far_word::{Mark, PtrWord, Refused};
+use far_word::{CELLS, Mark, PtrWord, Refused};
 use std::alloc::{AllocError, Global};
 use std::marker::{Model, PhantomData};
 
@@ -189,6 +189,32 @@ impl<K: HeapName, D: Device> Own<K, D> {
         ensures { result ≡ uses self.now p }
     {
         self.used_len(p).is_some()
+    }
+
+    // Whether it has a pointer that it doesn't use.
+    pub(crate) fn has_left(&self) -> bool
+        ensures left { result ≡ true → HasLeft self.now }
+        ensures all { result ≡ false → UsesAll self.now }
+    {
+        self.keeps_law();
+        let first = self.number as u16 * CELLS;
+        for cell in 0..CELLS {
+            if !self.has(first + cell) {
+                return true;
+            }
+        }
+        false
+    }
+
+    // Whether a new object may be refused so by what it knows of its pointers: for want of a pointer if it uses each, for want of room if it has one left.
+    pub(crate) fn bears_out(&self, why: Refused) -> bool
+        ensures all { result ≡ true → why ≡ Refused.NoPointer → UsesAll self.now }
+        ensures left { result ≡ true → why ≡ Refused.NoRoom → HasLeft self.now }
+    {
+        match why {
+            Refused::NoRoom => self.has_left(),
+            _ => !self.has_left(),
+        }
     }
 
     // Whether its scope views a pointer's object.

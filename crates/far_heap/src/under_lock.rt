@@ -40,7 +40,8 @@ fn place<K: HeapName, D: Device + Drop>(
     book.place_new(owner, len, ds)
 }
 
-// Makes a new object of zeros, and uses it from then on: its pointer.
+// Makes a new object of zeros, and uses it from then on: its pointer. Where the book answers otherwise than by what the mutator knows of its pointers it is
+// asked anew.
 #[inline(always)]
 pub(crate) fn alloc<K: HeapName, D: Device + Drop, R: Wait>(
     rt: &R,
@@ -63,7 +64,11 @@ pub(crate) fn alloc<K: HeapName, D: Device + Drop, R: Wait>(
                     return Ok(p);
                 }
             }
-            Err(why) => return Err(why),
+            Err(why) => {
+                if own.bears_out(why) {
+                    return Err(why);
+                }
+            }
         }
     }
     unreachable!()

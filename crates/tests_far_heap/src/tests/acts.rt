@@ -123,7 +123,9 @@ pub(super) enum Act {
     AllWork(usize, Went),
     /// A copier finishes its job, whatever is left of it; or it has none.
     Ends(usize, bool),
-    /// A copier is dropped, with the job that it has.
+    /// A copier is dropped, which finishes the job that it has.
+    Quits(usize),
+    /// A copier is never dropped, nor goes on, as in a thread that stops: the job that it has is never finished.
     Loses(usize),
 
     /// The phase of the round, and the epoch.

@@ -1,8 +1,10 @@
-//! When the lock is let go, as another thread sees it that keeps taking it: between two turns of a round; not between bringing an object and its pin.
+//! When the lock is let go, as another thread sees it that keeps taking it, and copies what is offered: between two turns of a round; not between bringing an
+//! object and its pin.
 
 use crate::tests::acts::Act::*;
 use crate::tests::acts::Choice::Eldest;
 use crate::tests::acts::{Act, End, ZEROS};
+use crate::tests::copy_hands::CopyHand;
 use crate::tests::flag::Tally;
 use crate::tests::looks::{is_marked, is_unpinned};
 use crate::tests::play::Scene::Between;
@@ -11,6 +13,7 @@ use crate::tests::stage::Stage;
 use far_device::Device;
 use far_evac::{LogKind, Phase};
 use far_heap::{Evacuator, Heap, HeapName};
+use std::mem;
 use std::sync::Wait;
 use std::thread::{Threads, join};
 
@@ -214,6 +217,13 @@ fn watch<K: HeapName, D: Device + Drop, R: Wait>(rt: &R, heap: &Heap<K, D>, told
     }
 }
 
+// Each copier goes on by one call.
+fn all_go_on<K: HeapName, D: Device + Drop>(copiers: &mut [CopyHand<K, D>]) {
+    for copier in copiers.iter_mut() {
+        copier.goes_on();
+    }
+}
+
 // Makes all, and tells when no more are made.
 fn makes<K: HeapName, D: Device + Drop, R: Wait>(
     rt: &R,
@@ -229,10 +239,11 @@ fn makes<K: HeapName, D: Device + Drop, R: Wait>(
     done
 }
 
-// Looks, under the lock, until no more are made.
+// Looks, under the lock, until no more are made; between two looks each copier goes on.
 fn keeps_looking<K: HeapName, D: Device + Drop, R: Wait>(
     rt: &R,
     heap: &Heap<K, D>,
+    mut copiers: Vec<CopyHand<K, D>>,
     told: &Told,
     made: Made,
 ) {
@@ -244,6 +255,7 @@ fn keeps_looking<K: HeapName, D: Device + Drop, R: Wait>(
             Made::Rounds => look(&mut *heap.book(rt), told),
             Made::Views => watch(rt, heap, told),
         }
+        all_go_on(&mut copiers);
     }
 }
 
@@ -257,11 +269,12 @@ pub(super) fn plays<
     if !stage.does(rt, Fills(OBJECTS, 56)) {
         return false;
     }
+    let copiers = mem::replace(&mut stage.copiers, Vec::new(stage.alloc));
     let (heap, told) = (stage.heap, &Told::new());
     let (done, _) = join(
         rt,
         move || makes(rt, stage, told, made),
-        move || keeps_looking(rt, heap, told, made),
+        move || keeps_looking(rt, heap, copiers, told, made),
     );
     match made {
         Made::Rounds => done && told.has_both(),
@@ -276,7 +289,13 @@ const ROUNDS_MADE: Play = Play {
 };
 
 // A log has 64 objects, and a turn deals with 16: so there are moments between two turns.
-const BETWEEN_TURNS: &[Play] = &[ROUNDS_MADE];
+const BETWEEN_TURNS: &[Play] = &[
+    ROUNDS_MADE,
+    Play {
+        copiers: Some(1),
+        ..ROUNDS_MADE
+    },
+];
 
 #[test]
 fn the_lock_is_let_go_between_turns(rt: HostRuntime) {
@@ -290,7 +309,13 @@ const VIEWS_MADE: Play = Play {
 };
 
 // What a view has brought near is pinned under the same hold of the lock.
-const BETWEEN_VIEWS: &[Play] = &[VIEWS_MADE];
+const BETWEEN_VIEWS: &[Play] = &[
+    VIEWS_MADE,
+    Play {
+        copiers: Some(1),
+        ..VIEWS_MADE
+    },
+];
 
 #[test]
 fn a_fetched_object_is_pinned_before_the_lock_is_let_go(rt: HostRuntime) {

@@ -41,13 +41,22 @@ const TWO_TURNS: &[Act] = &[
     In(Phase::Evacuating),
 ];
 
-const A_LIMIT_LEAVES_THE_ROUND_STANDING_PLAYS: &[Play] = &[Play {
+const LIMITED: Play = Play {
     logs: 6,
     scene: Acts(&[
         THREE_LOGS, NO_TURN, STANDS, ONE_TURN, STANDS, TWO_TURNS, STANDS,
     ]),
     ..ONE
-}];
+};
+
+// Without copiers and with one.
+const A_LIMIT_LEAVES_THE_ROUND_STANDING_PLAYS: &[Play] = &[
+    LIMITED,
+    Play {
+        copiers: Some(1),
+        ..LIMITED
+    },
+];
 
 #[test]
 fn a_limit_leaves_the_round_standing(rt: HostRuntime) {
@@ -67,11 +76,19 @@ const CHOSEN_ALONE: &[Act] = &[
     Near(2, (2, 0), false),
 ];
 
-const A_ROUND_EMPTIES_WHAT_ITS_POLICY_CHOSE_PLAYS: &[Play] = &[Play {
+const CHOSEN: Play = Play {
     logs: 6,
     scene: Acts(&[THREE_LOGS, CHOSEN_ALONE]),
     ..ONE
-}];
+};
+
+const A_ROUND_EMPTIES_WHAT_ITS_POLICY_CHOSE_PLAYS: &[Play] = &[
+    CHOSEN,
+    Play {
+        copiers: Some(1),
+        ..CHOSEN
+    },
+];
 
 #[test]
 fn a_round_empties_what_its_policy_chose(rt: HostRuntime) {
@@ -89,11 +106,19 @@ const REFUSED: &[Act] = &[
     In(Phase::Marking),
 ];
 
-const A_POLICY_THAT_IS_REFUSED_IS_NOT_ASKED_AGAIN_PLAYS: &[Play] = &[Play {
+const UNASKED: Play = Play {
     logs: 6,
     scene: Acts(&[THREE_LOGS, REFUSED]),
     ..ONE
-}];
+};
+
+const A_POLICY_THAT_IS_REFUSED_IS_NOT_ASKED_AGAIN_PLAYS: &[Play] = &[
+    UNASKED,
+    Play {
+        copiers: Some(1),
+        ..UNASKED
+    },
+];
 
 #[test]
 fn a_policy_that_is_refused_is_not_asked_again(rt: HostRuntime) {

@@ -66,9 +66,17 @@ impl<K: HeapName, D: Device + Drop> CopyHand<K, D> {
         }
     }
 
-    /// Drops the copier, with the job at hand; whether it was there.
-    pub(super) fn is_lost(&mut self) -> bool {
+    /// Drops the copier, which finishes the job at hand; whether it was there.
+    pub(super) fn quits(&mut self) -> bool {
         !matches!(mem::replace(self, CopyHand::Gone), CopyHand::Gone)
+    }
+
+    /// Keeps the copier from being dropped, so that the job at hand is never finished; whether it was there.
+    pub(super) fn is_lost(&mut self) -> bool {
+        let hand = mem::replace(self, CopyHand::Gone);
+        let was_there = !matches!(hand, CopyHand::Gone);
+        mem::forget(hand);
+        was_there
     }
 
     /// Goes on, as a copier does in a thread of its own, until all is over, and finishes the job at hand then; `false` where that end didn't come.

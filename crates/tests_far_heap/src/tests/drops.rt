@@ -54,10 +54,19 @@ const TWO_AT_LAST: &[Act] = &[
     Deals(9, Ok([0, 0, 0, 1])),
 ];
 
-const A_DROP_BESIDE_A_ROUND_FREES_ITS_CELL_PLAYS: &[Play] = &[Play {
+const DROPPED: Play = Play {
     scene: Acts(&[MARKING, TWO_WHILE_MARKING, TWO_WHILE_WAITING, TWO_AT_LAST]),
     ..ONE
-}];
+};
+
+// Without copiers and with one.
+const A_DROP_BESIDE_A_ROUND_FREES_ITS_CELL_PLAYS: &[Play] = &[
+    DROPPED,
+    Play {
+        copiers: Some(1),
+        ..DROPPED
+    },
+];
 
 #[test]
 fn a_drop_beside_a_round_frees_its_cell(rt: HostRuntime) {

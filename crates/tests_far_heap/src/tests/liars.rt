@@ -6,7 +6,7 @@ use crate::tests::acts::{Act, End};
 use crate::tests::devices::{COMES_BACK, IN_LOG_TWO, SENT_FAR};
 use crate::tests::play::Scene::Acts;
 use crate::tests::play::{ONE, Over, Play, holds};
-use far_evac::LogKind;
+use far_evac::{LogKind, Phase};
 use far_word::Refused;
 
 // An object of a byte goes far, beside one that stays, and comes back with the byte that the device gave, in the log that was given back.
@@ -27,6 +27,9 @@ const FLIPPED: &[Act] = &[
     Log(0, LogKind::Open, [16, 0, 4080]),
 ];
 
+// A round begins.
+const BEGINS: &[Act] = &[Selects(Eldest, 1, Ok(&[1]))];
+
 // A view is refused once, and the object stays far.
 const DAMAGED: &[Act] = &[
     Has(3),
@@ -35,6 +38,9 @@ const DAMAGED: &[Act] = &[
     ViewsNone(0, Refused::Damaged),
     Far(0, true),
 ];
+
+// The round goes on to stand.
+const STANDS: &[Act] = &[In(Phase::Marking), GivesUp(Ok(()))];
 
 const STILL_THREE: &[Act] = &[Closes, Has(3)];
 
@@ -47,7 +53,15 @@ const LIES: &[Play] = &[
     },
     Play {
         over: Over::Short,
-        scene: Acts(&[IN_LOG_TWO, SENT_FAR, DAMAGED, COMES_BACK, STILL_THREE]),
+        scene: Acts(&[
+            IN_LOG_TWO,
+            SENT_FAR,
+            BEGINS,
+            DAMAGED,
+            STANDS,
+            COMES_BACK,
+            STILL_THREE,
+        ]),
         ..ONE
     },
 ];

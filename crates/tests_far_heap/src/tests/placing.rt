@@ -58,34 +58,47 @@ const NO_POINTER_LEFT: &[Act] = &[
 const POINTERLESS_WAITING: &[Act] = &[Marks(128, Ok((127, Some(1)))), In(Phase::Waiting)];
 
 // In each phase of a round.
+const ROOMLESS: Play = Play {
+    logs: 3,
+    scene: Acts(&[
+        NO_ROOM_LEFT,
+        NO_ROOM,
+        MARKING,
+        NO_ROOM,
+        ROOMLESS_WAITING,
+        NO_ROOM,
+        LEAVING,
+        NO_ROOM,
+    ]),
+    ..ONE
+};
+
+const POINTERLESS: Play = Play {
+    logs: 6,
+    scene: Acts(&[
+        NO_POINTER_LEFT,
+        NO_POINTER,
+        MARKING,
+        NO_POINTER,
+        POINTERLESS_WAITING,
+        NO_POINTER,
+        LEAVING,
+        NO_POINTER,
+    ]),
+    ..ONE
+};
+
+// Without copiers and with one.
 const A_REFUSED_OBJECT_LEAVES_A_ROUND_AS_IT_IS_PLAYS: &[Play] = &[
+    ROOMLESS,
+    POINTERLESS,
     Play {
-        logs: 3,
-        scene: Acts(&[
-            NO_ROOM_LEFT,
-            NO_ROOM,
-            MARKING,
-            NO_ROOM,
-            ROOMLESS_WAITING,
-            NO_ROOM,
-            LEAVING,
-            NO_ROOM,
-        ]),
-        ..ONE
+        copiers: Some(1),
+        ..ROOMLESS
     },
     Play {
-        logs: 6,
-        scene: Acts(&[
-            NO_POINTER_LEFT,
-            NO_POINTER,
-            MARKING,
-            NO_POINTER,
-            POINTERLESS_WAITING,
-            NO_POINTER,
-            LEAVING,
-            NO_POINTER,
-        ]),
-        ..ONE
+        copiers: Some(1),
+        ..POINTERLESS
     },
 ];
 
@@ -149,7 +162,7 @@ const PLACED_LEAVING: &[Act] = &[
     OneMore(24),
 ];
 
-const A_NEW_OBJECT_IS_PLACED_ONCE_PLAYS: &[Play] = &[Play {
+const PLACED: Play = Play {
     logs: 6,
     scene: Acts(&[
         PLACED_IDLE,
@@ -160,7 +173,15 @@ const A_NEW_OBJECT_IS_PLACED_ONCE_PLAYS: &[Play] = &[Play {
         PLACED_LEAVING,
     ]),
     ..ONE
-}];
+};
+
+const A_NEW_OBJECT_IS_PLACED_ONCE_PLAYS: &[Play] = &[
+    PLACED,
+    Play {
+        copiers: Some(1),
+        ..PLACED
+    },
+];
 
 #[test]
 fn a_new_object_is_placed_once(rt: HostRuntime) {

@@ -5,7 +5,7 @@ use crate::tests::acts::Choice::Eldest;
 use crate::tests::acts::{Act, End, ZEROS};
 use crate::tests::play::Scene::{Acts, Begins, Never};
 use crate::tests::play::{ONE, Play, holds};
-use far_evac::LogKind;
+use far_evac::{LogKind, Phase};
 use far_word::Refused;
 
 const NO_HEAP: Play = Play {
@@ -186,6 +186,16 @@ const FILLED_UP: &[Act] = &[
     Makes(8, Err(Refused::NoRoom)),
 ];
 
+// It isn't viewed while a round stands, which goes on to stand.
+const STANDS_WITHOUT_ROOM: &[Act] = &[
+    Selects(Eldest, 1, Ok(&[1])),
+    Opens,
+    ViewsNone(0, Refused::NoRoom),
+    Closes,
+    In(Phase::Marking),
+    GivesUp(Ok(())),
+];
+
 // The far object can't be viewed for want of room, and stays far, until a round gives a log back.
 const FAR_WITHOUT_ROOM: &[Act] = &[
     Opens,
@@ -201,7 +211,7 @@ const FAR_WITHOUT_ROOM: &[Act] = &[
 
 // A far object isn't viewed while no log has room for it, and is after a round that gave a log back.
 const A_FAR_OBJECT_WAITS_FOR_ROOM_PLAYS: &[Play] = &[Play {
-    scene: Acts(&[FILLED_UP, FAR_WITHOUT_ROOM]),
+    scene: Acts(&[FILLED_UP, STANDS_WITHOUT_ROOM, FAR_WITHOUT_ROOM]),
     ..ONE
 }];
 

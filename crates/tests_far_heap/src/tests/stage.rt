@@ -143,7 +143,15 @@ impl<'h, K: HeapName, D: Device + Drop> Stage<'h, K, D> {
         }
     }
 
-    // Drops a copier; whether it was there.
+    // Drops a copier, which finishes its job; whether it was there.
+    fn quits(&mut self, number: usize) -> bool {
+        match self.copiers.get_mut(number) {
+            Some(hand) => hand.quits(),
+            None => false,
+        }
+    }
+
+    // Loses a copier with its job; whether it was there.
     fn loses(&mut self, number: usize) -> bool {
         match self.copiers.get_mut(number) {
             Some(hand) => hand.is_lost(),
@@ -221,6 +229,7 @@ impl<'h, K: HeapName, D: Device + Drop> Stage<'h, K, D> {
             Act::Works(number, went) => self.works(number, went),
             Act::AllWork(copiers, went) => self.all_work(copiers, went),
             Act::Ends(number, had) => self.ends(number) == had,
+            Act::Quits(number) => self.quits(number),
             Act::Loses(number) => self.loses(number),
             _ => self.does_at_hand(rt, act),
         }

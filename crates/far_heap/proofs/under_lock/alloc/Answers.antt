@@ -4,7 +4,7 @@ use Rattle.std.proofs.lemmas.Bool.{eq-eqb, false_from_ne_true, true≢false}
 use Rattle.far_word.specs.declared.refused.Refused.{Refused}
 use Rattle.far_word.specs.declared.refused.Refused.TheVariants as refused
 use Rattle.far_word.specs.declared.sizes.TheConstants.{CELLS}
-use Rattle.far_heap.specs.Mine.{IsRefusedNew, Mine, adopting, is_length, uses}
+use Rattle.far_heap.specs.Mine.{HasLeft, IsRefusedNew, Mine, UsesAll, adopting, is_length, uses}
 use Rattle.far_heap.specs.BookHad.{BookDid, BookHad, HasRoom, LacksRoom, NoneFree, Places}
 use Rattle.far_heap.proofs.Refusals.{length_allowed, length_within}
 use Rattle.far_heap.proofs.under_lock.alloc.Goals.{then-len-eq0-via-then-len-eq0, then-len-eq0-via-else-len-eq0+then-len-gt-LONGEST}
@@ -41,6 +41,8 @@ returns-then-len-eq0 g c =
       refused = (subst (λ b. IsRefusedNew b refused.Length) (sym (false_from_ne_true (is_length c.args.len) never)) refl, refl);
       none = λ e. absurd (length_isnt_pointer (why_is _ _ (Err refused.Length) refl e));
       full = λ e. absurd (length_isnt_room (why_is _ _ (Err refused.Length) refl e));
+      all = λ e. absurd (length_isnt_pointer (why_is _ _ (Err refused.Length) refl e));
+      left = λ e. absurd (length_isnt_room (why_is _ _ (Err refused.Length) refl e));
     }
 
 pub loop-init : goal.loop-init
@@ -76,13 +78,15 @@ returns-then-adopt_new g c =
       refused = tt;
       none = λ e. absurd (made_isnt p refused.NoPointer e);
       full = λ e. absurd (made_isnt p refused.NoRoom e);
+      all = λ e. absurd (made_isnt p refused.NoPointer e);
+      left = λ e. absurd (made_isnt p refused.NoRoom e);
     }
 
-pub loop-preserved : goal.loop-preserved
-loop-preserved g c = (tt, tt, c.adopt_new.ensures.kept c.if-adopt_new.false ∙ c.loop.invariant.2)
+pub loop-preserved-else-adopt_new : goal.loop-preserved-else-adopt_new
+loop-preserved-else-adopt_new g c = (tt, tt, c.adopt_new.ensures.kept c.if-adopt_new.false ∙ c.loop.invariant.2)
 
-pub returns-in-Err : goal.returns-in-Err
-returns-in-Err g c =
+pub returns-then-bears_out : goal.returns-then-bears_out
+returns-then-bears_out g c =
     let same = c.loop.invariant.2 in
     let number = c.number.ensures ∙ ap (λ (m : Mine). m.number) same in
     let allowed = length_allowed c.args.len (above c.args.len c.if-len-eq0.false) c.if-len-gt-LONGEST.false in record {
@@ -92,4 +96,9 @@ returns-in-Err g c =
       refused = (subst (λ b. IsRefusedNew b c.in-Err.why) (sym allowed) c.in-Err.ensures.refused, same);
       none = λ e. subst (λ (n : ℕ). BookHad g.row.D.Denot g.K.HeapName.heap (NoneFree n)) number (c.in-Err.ensures.none e);
       full = λ e. subst (λ (n : ℕ). BookHad g.row.D.Denot g.K.HeapName.heap (LacksRoom n c.args.len)) number (c.in-Err.ensures.full e);
+      all = λ e. subst UsesAll same (c.bears_out.ensures.all c.if-bears_out.true (why_is _ _ (Err c.in-Err.why) refl e));
+      left = λ e. subst HasLeft same (c.bears_out.ensures.left c.if-bears_out.true (why_is _ _ (Err c.in-Err.why) refl e));
     }
+
+pub loop-preserved : goal.loop-preserved
+loop-preserved g c = (tt, tt, c.loop.invariant.2)
