@@ -1,9 +1,10 @@
--- Answers of the heap's calls are those of a mutator that is alone with its lines, or is hindered, or is given other bytes than it wrote.
+-- Answers of the heap's calls are those of a mutator that is alone with its lines, or is given other bytes than it wrote.
 use Rattle.std.proofs.Common.{◌≡◌, ◌≢◌, ◌⊎◌, ℕ, ◌+◌, ◌-◌, ◌/◌, ◌<◌, ◌≤◌, Bool, true, false, Option, Some, None, List, ◌++◌, length, take, drop, get_or, replicate, refl, sym, ap, subst, ◌∙◌, inl, inr, arith}
 use Rattle.std.specs.Prelude.{◌&&◌, IfSome, if◌then◌else◌, nat_le, slice_range}
 use Rattle.std.proofs.Math.Seq.{take-append_seam}
-use Rattle.std.proofs.lemmas.Bool.{eqb-true, false≢true, le-leb}
+use Rattle.std.proofs.lemmas.Bool.{eq-eqb, eqb-true, false≢true, le-leb}
 use Rattle.std.proofs.lemmas.List.{take_all}
+use Rattle.std.proofs.lemmas.Option.{none-some}
 use Rattle.far_word.specs.declared.refused.Refused.{Refused as Refusal}
 use Rattle.far_word.specs.Pointer.{read_of}
 use Rattle.far_word.specs.declared.refused.Refused.TheVariants.{AlreadyOpen, Closed, Damaged, Device, Held, Marked, Memory, NoPointer, NoRoom, NotHeld}
@@ -12,15 +13,15 @@ use Rattle.far_core.specs.state.State.{put}
 use Rattle.far_core.proofs.Put.{put_same}
 use Rattle.far_heap.specs.BookHad.{BookHad, HasRoom, LacksRoom, NoneFree}
 use Rattle.far_heap.specs.HeapId.{HeapId}
-use Rattle.far_heap.specs.Mine.{Asks, AsksToView, IsNoObject, IsNoView, IsRefusedNew, IsRefusedView, IsSlow, IsUnbrought, Mine, adopting, asking, bytes_in, closing, drop_refusal, dropping, ds_in, is_length, len_in, opening, owns, uses, viewing, views, with_range, writing}
+use Rattle.far_heap.specs.Mine.{Asks, AsksToView, HasLeft as LeavesOne, IsNoObject, IsNoView, IsRefusedNew, IsRefusedView, IsSlow, IsUnbrought, Mine, UsesAll, adopting, asking, bytes_in, closing, drop_refusal, dropping, ds_in, is_length, len_in, opening, owns, uses, viewing, views, with_range, writing}
 use Rattle.far_heap.specs.MineLaw.{MineLaw}
 use Rattle.far_heap.proofs.Spliced.{length-with_range, with_range_inside}
 use Rattle.far_text.specs.Command.{Close, Command, Drop, Mutator, New, Open, Read, Request, Try, View, Write}
-use Rattle.far_replay.specs.Alone.{Knows, Own}
+use Rattle.far_replay.specs.Alone.{HasAll, HasLeft, Knows, Own}
 use Rattle.far_reply.specs.Reply.{Data, Done, Pointer, Refused, Reply}
 use Rattle.far_replay.proofs.Fronts.{ranges_same}
 use Rattle.far_split.specs.FarSides.{FarSide}
-use Rattle.far_split.specs.Here.{Hindered, IsToldOf, IsUndamaged, KnowsHere, TellsOfHeap}
+use Rattle.far_split.specs.Here.{IsToldOf, IsUndamaged, KnowsHere, TellsOfHeap}
 use Rattle.far_split.specs.Slots.{Answers, AreSizes, IsOwn, IsReached, Learns, needs_scope}
 use Rattle.far_split.specs.declared.access.Access.{Access}
 use Rattle.far_split.proofs.Owns.{is_adopting, is_closing, is_dropping, is_opening, is_otherwise, is_viewing, is_writing, unused_none, used_known, used_own}
@@ -32,14 +33,17 @@ read_back all new from fits =
     (λ k lt. with_range_inside all from new fits (from + k) (omega arith) (omega arith) ∙ ap (λ j. get_or new j 0) (omega arith))
     ∙ take_all (0 + length new - 0) new (omega arith)
 
--- ---- by the plain program's law, or hindered
+-- ---- by the plain program's law
 plainly : (honest : Bool) (m : ℕ) (o : Own) (c : Command) (r : Reply) (q : Own) → Knows m o c r q → (honest ≡ true → IsUndamaged r) → KnowsHere honest m o c r q
-plainly true m o c r q knows whole = (inl knows, whole refl)
+plainly true m o c r q knows whole = (knows, whole refl)
 plainly false m o c r q knows whole = inl knows
 
-hindered : (honest : Bool) (m : ℕ) (o : Own) (c : Command) (r : Reply) (q : Own) → Hindered o c r q → (honest ≡ true → IsUndamaged r) → KnowsHere honest m o c r q
-hindered true m o c r q is whole = (inr is, whole refl)
-hindered false m o c r q is whole = inr (inl is)
+-- which of its pointers it uses
+all_used : (m : Mine) (o : Own) → IsOwn m o → UsesAll m → HasAll m.number o
+all_used m o is all p own none = let known = used_known m o is p (all p (eq-eqb (p / CELLS) m.number own)) in none-some known.all (sym none ∙ known.is)
+
+one_left : (m : Mine) (o : Own) → IsOwn m o → LeavesOne m → HasLeft m.number o
+one_left m o is (p, own, unused) = (p, eqb-true (p / CELLS) m.number own, unused_none m o is p unused)
 
 -- a refusal is one that the mutator may be told, and tells what was so of the heap
 abbrev IsToldSo : HeapId → Mine → Own → Request → Refusal → Type 0
@@ -115,14 +119,14 @@ module _ {heap : HeapId} (m : Mine) (law : MineLaw m) where
   refuses request why told = record { learns = λ o is. (let both = told o is in record { own = o; is = is; knows = both.0; tells = both.1 }); short = tt; logless = tt; number = refl; honest = refl }
 
   pub unmade : (len ds : ℕ) (sizes : ℕ × ℕ) → AreSizes len ds sizes → (why : Refusal) (n : Mine) → IsNoObject sizes.0 why → n ≡ m → (why ≡ NoPointer → BookHad FarSide heap (NoneFree m.number))
-      → (why ≡ NoRoom → BookHad FarSide heap (LacksRoom m.number sizes.0)) → Answers heap m (New len ds) (Refused why) n
-  unmade len ds sizes are why n given e none full =
+      → (why ≡ NoRoom → BookHad FarSide heap (LacksRoom m.number sizes.0)) → (why ≡ NoPointer → UsesAll m) → (why ≡ NoRoom → LeavesOne m) → Answers heap m (New len ds) (Refused why) n
+  unmade len ds sizes are why n given e none full all left =
       let is : IsRefusedNew true why = subst (λ b. IsRefusedNew b why) (ap is_length are.0 ∙ length_fits len are.3 are.4) given in
-      let by : (other : Refusal) → why ≡ other → ((o : Own) → IsToldSo heap m o (New len ds) other) → Answers heap m (New len ds) (Refused why) m
-      = λ other same told. subst (λ (x : Refusal). Answers heap m (New len ds) (Refused x) m) (sym same) (refuses (New len ds) other (λ o _. told o)) in
+      let by : (other : Refusal) → why ≡ other → ((o : Own) → IsOwn m o → IsToldSo heap m o (New len ds) other) → Answers heap m (New len ds) (Refused why) m
+      = λ other same told. subst (λ (x : Refusal). Answers heap m (New len ds) (Refused x) m) (sym same) (refuses (New len ds) other told) in
       subst (λ (z : Mine). Answers heap m (New len ds) (Refused why) z) (sym e) (elim is [
-        | inl pointer ↦ by NoPointer pointer (λ o. (hindered m.honest m.number o (Mutator m.number (New len ds)) (Refused NoPointer) o (are.2, are.3, are.4, refl) (λ _. tt), none pointer))
-        | inr room ↦ by NoRoom room (λ o. (hindered m.honest m.number o (Mutator m.number (New len ds)) (Refused NoRoom) o (are.2, are.3, are.4, refl) (λ _. tt), subst (λ l. BookHad FarSide heap (LacksRoom m.number l)) are.0 (full room)))
+        | inl pointer ↦ by NoPointer pointer (λ o is. (plainly m.honest m.number o (Mutator m.number (New len ds)) (Refused NoPointer) o (are.2, are.3, are.4, all_used m o is (all pointer), refl) (λ _. tt), none pointer))
+        | inr room ↦ by NoRoom room (λ o is. (plainly m.honest m.number o (Mutator m.number (New len ds)) (Refused NoRoom) o (are.2, are.3, are.4, one_left m o is (left room), refl) (λ _. tt), subst (λ l. BookHad FarSide heap (LacksRoom m.number l)) are.0 (full room)))
       ])
 
   pub dropped : (p : ℕ) (n : Mine) → uses m p ≡ true → views m p ≡ false → n ≡ dropping p m → Answers heap m (Drop p) Done n
@@ -288,7 +292,7 @@ module _ {heap : HeapId} (m : Mine) (law : MineLaw m) where
               record {
                 own = record other { viewed = put o.viewed p true };
                 is = is_viewing m law other (is_otherwise m law o is p own lying used new (many ∙ known.long)) p own views.0;
-                knows = subst (λ h. KnowsHere h m.number o (Mutator m.number (Read p from count)) (Data bytes) (record other { viewed = put o.viewed p true })) (sym lying) (inr (inr (record {
+                knows = subst (λ h. KnowsHere h m.number o (Mutator m.number (Read p from count)) (Data bytes) (record other { viewed = put o.viewed p true })) (sym lying) (inr (record {
                   p = p;
                   asks = (refl, refl);
                   old = known.all;
@@ -296,7 +300,7 @@ module _ {heap : HeapId} (m : Mine) (law : MineLaw m) where
                   had = known.is;
                   long = many;
                   knows = (is.opened ∙ opened, refl, (new, put_same o.object p (Some new) p refl, (some, omega (arith, fits, known.long, many)), back));
-                })));
+                }));
                 tells = tt;
               }
 

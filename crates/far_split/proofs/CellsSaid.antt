@@ -34,7 +34,7 @@ use Rattle.far_text.specs.Command.{Book, Close, Command, Drop, Epoch, Evacuator,
 use Rattle.far_replay.specs.Alone.{Knows, Own}
 use Rattle.far_reply.specs.Reply.{Pointer, Refused, Reply}
 use Rattle.far_split.specs.FarSides.{FarReads, FarSide}
-use Rattle.far_split.specs.Here.{Hindered, IsToldOf, KnowsHere, TellsOfHeap}
+use Rattle.far_split.specs.Here.{IsToldOf, KnowsHere, TellsOfHeap}
 use Rattle.far_split.specs.CellsSaid.{FailsToRead, HasCellAlone, HasFar, HasFarAndRoom, HasNoCell, HasNoTwoFree, HasNoneFree, HasNowhereFor, HasPlace, HasRoomFor, IsFarOrMarked, IsToldOfCells, MutatorsAreToldSo, NoneLacksMemory, PassesOpen, ReadsOthers, SaysWhy, WordsAreOfObjects}
 
 -- ---- what was so of a book, in other words
@@ -273,26 +273,10 @@ knows_none m o (Mutator k Epoch) q knows = knows
 knows_none m o (Book inquiry) q knows = knows
 knows_none m o (Evacuator step) q knows = knows
 
-hinders_none : (o : Own) (c : Command) (q : Own) → Hindered o c (Refused Memory) q → ⊥
-hinders_none o (Mutator k (New len structure)) q hindered = hindered
-hinders_none o (Mutator k Open) q hindered = hindered
-hinders_none o (Mutator k (Write p from bytes)) q hindered = hindered
-hinders_none o (Mutator k (Read p from len)) q hindered = hindered
-hinders_none o (Mutator k Close) q hindered = hindered
-hinders_none o (Mutator k (Where p)) q hindered = hindered
-hinders_none o (Mutator k (Drop p)) q hindered = hindered
-hinders_none o (Mutator k (View p)) q hindered = hindered
-hinders_none o (Mutator k (Try p)) q hindered = hindered
-hinders_none o (Mutator k Epoch) q hindered = hindered
-hinders_none o (Book inquiry) q hindered = hindered
-hinders_none o (Evacuator step) q hindered = hindered
-
 none_told : (honest : Bool) (m : ℕ) (o : Own) (c : Command) (q : Own) → KnowsHere honest m o c (Refused Memory) q → ⊥
-none_told true m o c q (inl knows, whole) = knows_none m o c q knows
-none_told true m o c q (inr hindered, whole) = hinders_none o c q hindered
+none_told true m o c q (knows, whole) = knows_none m o c q knows
 none_told false m o c q (inl knows) = knows_none m o c q knows
-none_told false m o c q (inr (inl hindered)) = hinders_none o c q hindered
-none_told false m o c q (inr (inr given)) = knows_none m _ c q given.knows
+none_told false m o c q (inr given) = knows_none m _ c q given.knows
 
 pub none_lacks_memory : NoneLacksMemory
 none_lacks_memory honest m o c why q knows e = none_told honest m o c q (subst (λ (w : Refusal). KnowsHere honest m o c (Refused w) q) (is_one why e) knows)

@@ -35,34 +35,32 @@ module _ (o : Own) (p k : ℕ) (same : k ≡ p) (old new : List ℕ) (had : o.ob
   still_in from count (all, is, (some, fits)) = (old, was, (some, omega (arith, fits, as_long all is)))
 
 pub refusals_lawful : RefusalsAreLawful
-refusals_lawful m o c why q (inl knows) = inl (q, knows)
-refusals_lawful m o c why q (inr (inl hindered)) = inr hindered
-refusals_lawful m o (Mutator j (Read k from len)) Closed q (inr (inr g)) = inl (o, (g.knows.0, refl))
-refusals_lawful m o (Mutator j (Read k from len)) NotHeld q (inr (inr g)) = absurd (never_none o g.p k g.asks.1 g.old g.new g.had g.long g.knows.1)
-refusals_lawful m o (Mutator j (Read k from len)) Range q (inr (inr g)) = inl (o, (g.knows.0, refl, still_out o g.p k g.asks.1 g.old g.new g.had g.long from len g.knows.2))
-refusals_lawful m o (Mutator j (Read k from len)) NoRoom q (inr (inr g)) = inl (o, (g.knows.0, g.knows.1, refl, still_in o g.p k g.asks.1 g.old g.new g.had g.long from len g.knows.3))
-refusals_lawful m o (Mutator j (Read k from len)) Device q (inr (inr g)) = inl (o, (g.knows.0, g.knows.1, refl, still_in o g.p k g.asks.1 g.old g.new g.had g.long from len g.knows.3))
-refusals_lawful m o (Mutator j (Read k from len)) Damaged q (inr (inr g)) = inl (o, (g.knows.0, g.knows.1, refl, still_in o g.p k g.asks.1 g.old g.new g.had g.long from len g.knows.3))
-refusals_lawful m o (Mutator j (Write k from bytes)) Closed q (inr (inr g)) = inl (o, (g.knows.0, refl))
-refusals_lawful m o (Mutator j (Write k from bytes)) NotHeld q (inr (inr g)) = absurd (never_none o g.p k g.asks.1 g.old g.new g.had g.long g.knows.1)
-refusals_lawful m o (Mutator j (Write k from bytes)) Range q (inr (inr g)) = inl (o, (g.knows.0, refl, still_out o g.p k g.asks.1 g.old g.new g.had g.long from (length bytes) g.knows.2))
-refusals_lawful m o (Mutator j (Write k from bytes)) NoRoom q (inr (inr g)) = inl (o, (g.knows.0, g.knows.1, refl, still_in o g.p k g.asks.1 g.old g.new g.had g.long from (length bytes) g.knows.3))
-refusals_lawful m o (Mutator j (Write k from bytes)) Device q (inr (inr g)) = inl (o, (g.knows.0, g.knows.1, refl, still_in o g.p k g.asks.1 g.old g.new g.had g.long from (length bytes) g.knows.3))
-refusals_lawful m o (Mutator j (Write k from bytes)) Damaged q (inr (inr g)) = inl (o, (g.knows.0, g.knows.1, refl, still_in o g.p k g.asks.1 g.old g.new g.had g.long from (length bytes) g.knows.3))
-refusals_lawful m o (Mutator j (View k)) Closed q (inr (inr g)) = inl (o, (g.knows.0, refl))
-refusals_lawful m o (Mutator j (View k)) NotHeld q (inr (inr g)) = absurd (never_none o g.p k g.asks.1 g.old g.new g.had g.long g.knows.1)
-refusals_lawful m o (Mutator j (View k)) NoRoom q (inr (inr g)) = inl (o, (g.knows.0, g.knows.1, refl, (g.old, was o g.p k g.asks.1 g.old g.new g.had g.long)))
-refusals_lawful m o (Mutator j (View k)) Device q (inr (inr g)) = inl (o, (g.knows.0, g.knows.1, refl, (g.old, was o g.p k g.asks.1 g.old g.new g.had g.long)))
-refusals_lawful m o (Mutator j (View k)) Damaged q (inr (inr g)) = inl (o, (g.knows.0, g.knows.1, refl, (g.old, was o g.p k g.asks.1 g.old g.new g.had g.long)))
-refusals_lawful m o (Mutator j (Read k from len)) why q (inr (inr g)) = absurd g.knows
-refusals_lawful m o (Mutator j (Write k from bytes)) why q (inr (inr g)) = absurd g.knows
-refusals_lawful m o (Mutator j (View k)) why q (inr (inr g)) = absurd g.knows
-refusals_lawful m o c why q (inr (inr g)) = absurd g.asks
+refusals_lawful m o c why q (inl knows) = (q, knows)
+refusals_lawful m o (Mutator j (Read k from len)) Closed q (inr g) = (o, (g.knows.0, refl))
+refusals_lawful m o (Mutator j (Read k from len)) NotHeld q (inr g) = absurd (never_none o g.p k g.asks.1 g.old g.new g.had g.long g.knows.1)
+refusals_lawful m o (Mutator j (Read k from len)) Range q (inr g) = (o, (g.knows.0, refl, still_out o g.p k g.asks.1 g.old g.new g.had g.long from len g.knows.2))
+refusals_lawful m o (Mutator j (Read k from len)) NoRoom q (inr g) = (o, (g.knows.0, g.knows.1, refl, still_in o g.p k g.asks.1 g.old g.new g.had g.long from len g.knows.3))
+refusals_lawful m o (Mutator j (Read k from len)) Device q (inr g) = (o, (g.knows.0, g.knows.1, refl, still_in o g.p k g.asks.1 g.old g.new g.had g.long from len g.knows.3))
+refusals_lawful m o (Mutator j (Read k from len)) Damaged q (inr g) = (o, (g.knows.0, g.knows.1, refl, still_in o g.p k g.asks.1 g.old g.new g.had g.long from len g.knows.3))
+refusals_lawful m o (Mutator j (Write k from bytes)) Closed q (inr g) = (o, (g.knows.0, refl))
+refusals_lawful m o (Mutator j (Write k from bytes)) NotHeld q (inr g) = absurd (never_none o g.p k g.asks.1 g.old g.new g.had g.long g.knows.1)
+refusals_lawful m o (Mutator j (Write k from bytes)) Range q (inr g) = (o, (g.knows.0, refl, still_out o g.p k g.asks.1 g.old g.new g.had g.long from (length bytes) g.knows.2))
+refusals_lawful m o (Mutator j (Write k from bytes)) NoRoom q (inr g) = (o, (g.knows.0, g.knows.1, refl, still_in o g.p k g.asks.1 g.old g.new g.had g.long from (length bytes) g.knows.3))
+refusals_lawful m o (Mutator j (Write k from bytes)) Device q (inr g) = (o, (g.knows.0, g.knows.1, refl, still_in o g.p k g.asks.1 g.old g.new g.had g.long from (length bytes) g.knows.3))
+refusals_lawful m o (Mutator j (Write k from bytes)) Damaged q (inr g) = (o, (g.knows.0, g.knows.1, refl, still_in o g.p k g.asks.1 g.old g.new g.had g.long from (length bytes) g.knows.3))
+refusals_lawful m o (Mutator j (View k)) Closed q (inr g) = (o, (g.knows.0, refl))
+refusals_lawful m o (Mutator j (View k)) NotHeld q (inr g) = absurd (never_none o g.p k g.asks.1 g.old g.new g.had g.long g.knows.1)
+refusals_lawful m o (Mutator j (View k)) NoRoom q (inr g) = (o, (g.knows.0, g.knows.1, refl, (g.old, was o g.p k g.asks.1 g.old g.new g.had g.long)))
+refusals_lawful m o (Mutator j (View k)) Device q (inr g) = (o, (g.knows.0, g.knows.1, refl, (g.old, was o g.p k g.asks.1 g.old g.new g.had g.long)))
+refusals_lawful m o (Mutator j (View k)) Damaged q (inr g) = (o, (g.knows.0, g.knows.1, refl, (g.old, was o g.p k g.asks.1 g.old g.new g.had g.long)))
+refusals_lawful m o (Mutator j (Read k from len)) why q (inr g) = absurd g.knows
+refusals_lawful m o (Mutator j (Write k from bytes)) why q (inr g) = absurd g.knows
+refusals_lawful m o (Mutator j (View k)) why q (inr g) = absurd g.knows
+refusals_lawful m o c why q (inr g) = absurd g.asks
 
 part_long : (all bytes : List ℕ) (from len : ℕ) → IsIn all from len → bytes ≡ slice_range all from (from + len) → length bytes ≡ len
 part_long all bytes from len (some, fits) is = ap length is ∙ range_length all from len fits
 
 pub reads_as_long : ReadsAreAsLong
 reads_as_long m o k p from len bytes q (inl (opened, viewed, (all, had, within, is))) = part_long all bytes from len within is
-reads_as_long m o k p from len bytes q (inr (inl hindered)) = absurd hindered
-reads_as_long m o k p from len bytes q (inr (inr g)) = let (all, had, within, is) = g.knows.2 in part_long all bytes from len within is
+reads_as_long m o k p from len bytes q (inr g) = let (all, had, within, is) = g.knows.2 in part_long all bytes from len within is

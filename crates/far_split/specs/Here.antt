@@ -3,25 +3,15 @@ use Rattle.std.specs.Prelude.{◌≡◌, ℕ, ◌<◌, ◌≤◌, ◌⊎◌, Boo
 use Rattle.far_word.specs.Pointer.{read_of}
 use Rattle.far_word.specs.declared.refused.Refused.{Refused as Refusal}
 use Rattle.far_word.specs.declared.refused.Refused.TheVariants.{Damaged, Device, Marked, NoPointer, NoRoom}
-use Rattle.far_word.specs.declared.sizes.TheConstants.{LONGEST}
 use Rattle.far_core.specs.state.State.{put}
 use Rattle.far_heap.specs.BookHad.{BookHad, HasRoom, IsAnswered, LacksRoom, NoneFree, Unbrought}
 use Rattle.far_heap.specs.HeapId.{HeapId}
 use Rattle.far_heap.specs.Mine.{IsSlow}
 use Rattle.far_text.specs.Command.{Command, Mutator, New, Read, Try, View, Write}
-use Rattle.far_replay.specs.Alone.{Alone, Knows, KnowsBy, Own, is_by, speaker}
+use Rattle.far_replay.specs.Alone.{Alone, Knows, Own, is_by, speaker}
 use Rattle.far_replay.specs.Commanded.{AsksFor}
 use Rattle.far_reply.specs.Reply.{Reply, Pointer, Refused}
 use Rattle.far_split.specs.FarSides.{FarReads, FarSide}
-
--- a command is refused by what others, rounds and the system do meanwhile, and what the mutator knows stays as it is. No earlier refusal of the command's row
--- applies, with one gap: of a new object that finds no room it isn't said that the mutator has a pointer without an object by its own lines (`HasLeft` of `Knows`), but
--- only that a cell of one of its pointers was free (`TellsOfHeap`). A new object may be refused for want of a pointer although one is unused by these lines, or for want of
--- room, since no said moment is that of the book which had no other. What a plain heap refuses too, for want of room, or by its device or a mark, is in `Knows`
-abbrev pub Hindered : Own → Command → Reply → Own → Type 0
-Hindered o (Mutator _ (New len ds)) (Refused NoPointer) q = (ds < 256) × (0 < len) × (len ≤ LONGEST) × (q ≡ o)
-Hindered o (Mutator _ (New len ds)) (Refused NoRoom) q = (ds < 256) × (0 < len) × (len ≤ LONGEST) × (q ≡ o)
-Hindered o _ _ q = ⊥
 
 -- the reply doesn't say that the far side gave another number of bytes
 abbrev pub IsUndamaged : Reply → Type 0
@@ -40,11 +30,11 @@ pub record IsGivenOthers (m : ℕ) (o : Own) (c : Command) (r : Reply) (q : Own)
   pub long : length new ≡ length old
   pub knows : Knows m (record o { object = put o.object p (Some new) }) c r q
 
--- a command of the mutator m with its reply takes what it knows from o to q, on a heap whose far side is honest or may lie: by its own lines, or it is hindered. Over an honest far
--- side no bytes are damaged; over one that may lie they may be, which is in Knows, or others be given
+-- a command of the mutator m with its reply takes what it knows from o to q, on a heap whose far side is honest or may lie: by its own lines. Over an honest far side no bytes are
+-- damaged; over one that may lie they may be, which is in Knows, or others be given
 abbrev pub KnowsHere : Bool → ℕ → Own → Command → Reply → Own → Type 0
-KnowsHere true m o c r q = (Knows m o c r q ⊎ Hindered o c r q) × IsUndamaged r
-KnowsHere false m o c r q = Knows m o c r q ⊎ Hindered o c r q ⊎ IsGivenOthers m o c r q
+KnowsHere true m o c r q = Knows m o c r q × IsUndamaged r
+KnowsHere false m o c r q = Knows m o c r q ⊎ IsGivenOthers m o c r q
 
 -- the replies to the mutator's own lines, from what it knows on
 abbrev pub AloneHere : Bool → ℕ → Own → List Command → List Reply → Type 0
@@ -89,7 +79,7 @@ AloneOn heap m o _ _ = ⊥
 abbrev pub commands_of : List (ℕ × Command) → List Command
 commands_of lines = map (λ (line : ℕ × Command). line.1) lines
 
--- ---- the law of a mutator that is alone is this one, where it is never hindered
+-- ---- the law of a mutator that is alone is this one, over an honest far side
 -- the lines are the mutator's own
 abbrev pub AreBy : ℕ → List Command → Type 0
 AreBy m [] = Unit {0}
@@ -99,19 +89,13 @@ abbrev pub AreUndamaged : List Reply → Type 0
 AreUndamaged [] = Unit {0}
 AreUndamaged (r ∷ rs) = IsUndamaged r × AreUndamaged rs
 
--- none of them is hindered, and each is as the plain program's mutator may be told
-abbrev pub Unhindered : Bool → ℕ → Own → List Command → List Reply → Type 0
-Unhindered honest m o [] [] = Unit {0}
-Unhindered honest m o (c ∷ cs) (r ∷ rs) = (q : Own) × KnowsBy honest m o c r q × Unhindered honest m q cs rs
-Unhindered honest m o _ _ = ⊥
-
 -- what is allowed of a mutator that is alone is allowed here, of an honest far side where none is damaged, and of one that may lie
 abbrev pub AloneIsAloneHere : Type 0
 AloneIsAloneHere = (honest : Bool) (m : ℕ) (o : Own) (cs : List Command) (rs : List Reply) → AreBy m cs → (honest ≡ true → AreUndamaged rs) → Alone honest m o cs rs → AloneHere honest m o cs rs
 
--- what isn't hindered here is allowed of a mutator that is alone
-abbrev pub UnhinderedIsAlone : Type 0
-UnhinderedIsAlone = (honest : Bool) (m : ℕ) (o : Own) (cs : List Command) (rs : List Reply) → AreBy m cs → Unhindered honest m o cs rs → Alone honest m o cs rs
+-- and over an honest far side what is allowed here is allowed of a mutator that is alone
+abbrev pub AloneHereIsAlone : Type 0
+AloneHereIsAlone = (m : ℕ) (o : Own) (cs : List Command) (rs : List Reply) → AreBy m cs → AloneHere true m o cs rs → Alone true m o cs rs
 
 -- what is allowed on a heap is allowed here
 abbrev pub AloneOnIsAloneHere : Type 0

@@ -3,21 +3,16 @@
 ghost use Rattle.far_split.specs.BookSaid.{BookIsToldSo, RoundsAreRefusedSo, SumsAreTold};
 ghost use Rattle.far_split.specs.CellsSaid.{MutatorsAreToldSo, NoneLacksMemory, WordsAreOfObjects};
 ghost use Rattle.far_split.specs.FaultRows.{FaultsAreInOrder};
-ghost use Rattle.far_split.specs.Here.{AloneIsAloneHere, AloneOnIsAloneHere, HonestIsAllowed, UnhinderedIsAlone};
-ghost use Rattle.far_split.specs.Served.{HinderedIsRefused, NeverDamaged, ReadsAreAsLong, RefusalsAreLawful, ServedIsAlone, UnrefusedIsAlone};
+ghost use Rattle.far_split.specs.Here.{AloneHereIsAlone, AloneIsAloneHere, AloneOnIsAloneHere, HonestIsAllowed};
+ghost use Rattle.far_split.specs.Served.{NeverDamaged, ReadsAreAsLong, RefusalsAreLawful};
 
-/// The law of a mutator's replies beside others is that of the plain program, with two refusals more, and over an honest far side without damaged bytes: what the plain program's
-/// law allows of its own lines is allowed, also over a far side that may lie. What hinders a line is one of those refusals, 2 and 3 of a new object of 1 to 4,088 bytes for a
-/// data structure below 256, and its mutator knows then what it knew; so over an honest far side the lines that are left, where such are left out, are allowed by the plain
-/// program's law, and all are where none is refused so; and none is refused 11. Over one that may lie all that is allowed over an honest one is allowed too; a refusal there is
-/// one of the plain program's law, or hinders, and a read gives as many bytes as it asks for. What is allowed on a heap, of which replies tell, is allowed by the first.
+/// Over an honest far side the law of a mutator's replies beside others is that of the plain program, and no line is refused 11: what the one allows of its own lines without damaged
+/// bytes the other does, and the other way round. Over a far side that may lie the plain program's law is allowed too, and all that is allowed over an honest one; a refusal there is one of
+/// the plain program's law, and a read gives as many bytes as it asks for. What is allowed on a heap, of which replies tell, is allowed by the first.
 pub fn mutators_are_alone()
     ensures allowed { AloneIsAloneHere }
-    ensures unhindered { UnhinderedIsAlone }
-    ensures hindered { HinderedIsRefused }
+    ensures alone { AloneHereIsAlone }
     ensures whole { NeverDamaged }
-    ensures served { ServedIsAlone }
-    ensures unrefused { UnrefusedIsAlone }
     ensures on_heap { AloneOnIsAloneHere }
     ensures lying { HonestIsAllowed }
     ensures lawful { RefusalsAreLawful }

@@ -11,4 +11,4 @@ pub returns-in-Err-alloc : goal.returns-in-Err-alloc
 returns-in-Err-alloc g c =
     let is = c.in-Err-alloc.ensures in
     unmade c.args.scope.now c.keeps_law.ensures.law c.args.len c.args.structure c.in-Ok.sizes c.in-Ok.ensures.sizes c.in-Err-alloc.why c.alloc.new.self is.refused.0 is.refused.1
-    (λ e. is.none (ap Err e)) (λ e. is.full (ap Err e))
+    (λ e. is.none (ap Err e)) (λ e. is.full (ap Err e)) (λ e. is.all (ap Err e)) (λ e. is.left (ap Err e))
