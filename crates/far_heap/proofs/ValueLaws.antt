@@ -1,10 +1,10 @@
 -- A value that was written is the one that is read.
-use Rattle.std.proofs.Common.{◌≡◌, ℕ, ◌+◌, ◌-◌, ◌<◌, ◌≤◌, ◌%◌, true, Option, Some, None, List, length, get_or, Result, Ok, Err, refl, sym, ap, subst, ◌∙◌, arith}
+use Rattle.std.proofs.Common.{◌≡◌, ℕ, ◌+◌, ◌-◌, ◌<◌, ◌≤◌, true, Option, Some, None, List, length, get_or, Result, Ok, Err, refl, ap, subst, ◌∙◌, arith}
 use Rattle.std.specs.Prelude.{IfSome, option_map, slice_index, slice_range}
 use Rattle.far_word.specs.declared.refused.Refused.{Refused}
-use Rattle.far_heap.specs.Mine.{Mine, Object, access_refusal, bytes_in, len_in, len_of, object_of, owns, rewritten, views, with_range, writing}
+use Rattle.far_heap.specs.Mine.{Mine, Object, access_refusal, bytes_in, len_in, len_of, object_of, rewritten, with_range, writing}
 use Rattle.far_heap.specs.MineLaw.{MineLaw}
-use Rattle.far_heap.specs.Values.{ReadsAs, ValuesComeBack, WritesAs}
+use Rattle.far_heap.specs.Values.{ReadsAs, ValuesComeBack}
 use Rattle.far_heap.proofs.Known.{range_written, row_here, uses_own, written}
 use Rattle.far_heap.proofs.Refusals.{access_allowed, access_within}
 use Rattle.far_heap.proofs.Spliced.{with_range_inside}
