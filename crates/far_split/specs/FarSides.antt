@@ -1,5 +1,5 @@
 -- The far side of the heap that a split text runs on, and what its calls are.
-use Rattle.std.specs.Prelude.{◌≡◌, ℕ, ◌-◌, ◌==◌, List, Option, Some, None, Result}
+use Rattle.std.specs.Prelude.{◌≡◌, ℕ, ◌-◌, ◌==◌, List, Option, Result}
 use Rattle.far_device.specs.FailAt.{Counts}
 use Rattle.far_device.specs.Liar.{told}
 use Rattle.far_device.specs.Mem.{MemLetsGo, MemReads, MemWrites, bytes_at}
