@@ -207,6 +207,8 @@ impl<K: HeapName, D: Device> Own<K, D> {
     }
 
     // Whether a new object may be refused so by what it knows of its pointers: for want of a pointer if it uses each, for want of room if it has one left.
+    #[cold]
+    #[inline(never)]
     pub(crate) fn bears_out(&self, why: Refused) -> bool
         ensures all { result ≡ true → why ≡ Refused.NoPointer → UsesAll self.now }
         ensures left { result ≡ true → why ≡ Refused.NoRoom → HasLeft self.now }
