@@ -124,7 +124,7 @@ draw() { # what, the status that is wanted, and the text that is drawn
     ((got)) || python3 -c 'import sys, xml.dom.minidom; xml.dom.minidom.parse(sys.argv[1])' "$work/out" || fail "draw, $1: no XML"
 }
 
-[[ "$("$here/draw" --help | head -n 1)" == 'usage: draw TRACE [PROGRAM]' ]] || fail 'draw --help'
+[[ "$("$here/draw" --help)" == 'usage: draw TRACE [PROGRAM]'* ]] || fail 'draw --help'
 draw 'refusals and inquiries' 0 '# words & <more>\n\nheap 2 1\nnew 0 8 1\nlogs\nopen 9\nwhere 0 0\ndrop 0 0\nlogs\nnew 0 9 1\nread 0 0 0 1'
 [[ "$(grep -c 'class="refused"' "$work/out")" == 2 ]] || fail 'draw: not each refusal is shown'
 draw 'a heap alone' 0 'heap 64 8\n'
