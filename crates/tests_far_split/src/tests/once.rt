@@ -13,7 +13,7 @@ new 0 8 1
 new 1 4088 1
 open 0
 view 0 0
-round oldest 1 100000
+round oldest 1 2000
 round oldest 1 9
 ";
 
