@@ -1,11 +1,11 @@
 //! What the book has written down of logs, cells and jobs. So no call of the ledger searches more than a mutator's 4 sets of free cells, or 16 jobs, but that
 //! sealing a log goes over the list of sealed logs.
 
-ghost use Rattle.std.specs.Prelude.{◌≡◌, ◌≢◌, ℕ, ◌+◌, ◌-◌, ◌*◌, ◌/◌, ◌<◌, ◌≤◌, ◌==◌, true, false, length, Some, None, List, [], IfOk, MatchOption};
+ghost use Rattle.std.specs.Prelude.{◌≡◌, ◌≢◌, ℕ, ◌+◌, ◌-◌, ◌*◌, ◌/◌, ◌<◌, ◌≤◌, ◌==◌, true, false, length, Bool, Some, None, List, [], IfOk, MatchOption};
 ghost use Rattle.std.specs.Vec.{vec_len};
 ghost use Rattle.far_word.specs.declared.sizes.TheConstants.{CELLS, LOG_WORDS, MOST_LOGS};
 ghost use Rattle.far_core.specs.laws.Observed.{live_bytes};
-ghost use Rattle.far_core.specs.state.Opening.{opening};
+ghost use Rattle.far_core.specs.state.Opening.{for_copiers, opening};
 ghost use Rattle.far_core.specs.state.Room.{room};
 ghost use Rattle.far_core.specs.state.Shape.{is_shape};
 ghost use Rattle.far_core.specs.state.State.{State};
@@ -56,7 +56,7 @@ impl Ledger {
     /// The ledger of a heap at the start.
     pub(crate) fn new(alloc: Global, shape: Shape) -> Result<Ledger, AllocError>
         requires { is_shape shape ≡ true }
-        ensures notes { IfOk result (λ ledger. Notes (own_part (opening shape false)) ledger) }
+        ensures notes { IfOk result (λ ledger. (has : Bool) → Notes (own_part (for_copiers has (opening shape false))) ledger) }
         ensures order { IfOk result (λ ledger. ledger.order ≡ []) }
     {
         let logs = shape.logs as usize;

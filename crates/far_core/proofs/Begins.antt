@@ -11,7 +11,7 @@ use Rattle.far_word.specs.declared.sizes.TheConstants.{EPOCH_END, LEAST_LOGS, LE
 use Rattle.far_core.specs.declared.event.Kind.TheVariants.{Free, Open}
 use Rattle.far_core.specs.declared.shape.Shape.{Shape}
 use Rattle.far_core.specs.state.Law.{Law}
-use Rattle.far_core.specs.state.Opening.{opening}
+use Rattle.far_core.specs.state.Opening.{for_copiers, opening}
 use Rattle.far_core.specs.state.Shape.{is_shape}
 use Rattle.far_core.proofs.Cells.{unused}
 use Rattle.far_core.proofs.KeepOwner.{closed_word}
@@ -33,8 +33,8 @@ pub record InRange (shape : Shape) : Type 0 where
 pub in_range : (shape : Shape) → is_shape shape ≡ true → InRange shape
 in_range shape h = record { two_logs = grind (arith, nat_tests); few_logs = grind (arith, nat_tests); some_mutators = grind (arith, nat_tests); few_mutators = grind (arith, nat_tests); epoch = grind (arith, nat_tests) }
 
-pub begins : (shape : Shape) (honest : Bool) → is_shape shape ≡ true → Law (opening shape honest)
-begins shape honest fits = let range = in_range shape fits in record {
+pub begins : (has : Bool) (shape : Shape) (honest : Bool) → is_shape shape ≡ true → Law (for_copiers has (opening shape honest))
+begins has shape honest fits = let range = in_range shape fits in record {
   shape = record { two_logs = range.two_logs; few_logs = range.few_logs; some_mutators = range.some_mutators; few_mutators = range.few_mutators };
   cells = record {
     cell_read = λ p. (omega arith, rw unused refl);
@@ -76,7 +76,7 @@ begins shape honest fits = let range = in_range shape fits in record {
     near = λ len ds place m e. let f : Some pointer.Free ≡ Some (Near len ds place m) = sym unused ∙ e in absurd cc;
     far = λ len ds m e. let f : Some pointer.Free ≡ Some (Far len ds m) = sym unused ∙ e in absurd cc;
   };
-  copies = no_copies (λ _. 0) (λ _. 0) (λ _. false) (λ _. false) shape.epoch (λ _. false);
+  copies = no_copies has (λ _. 0) (λ _. 0) (λ _. false) (λ _. false) shape.epoch (λ _. false);
   soils = record { soiled_held = λ p h. absurd (false≢true h); soiled_dirty = λ p h. absurd (false≢true h) };
   cleans = λ p. record {
     back = λ len ds place m e. let f : Some pointer.Free ≡ Some (Near len ds place m) = sym unused ∙ e in absurd cc;

@@ -1,17 +1,20 @@
 -- What a typed call leaves: the state after its event, which keeps the law.
-use Rattle.std.proofs.Common.{◌≡◌, ◌∙◌, ℕ, ◌+◌, ◌-◌, ◌*◌, ◌^◌, ◌/◌, ◌<◌, ◌≤◌, Bool, Some, ap, arith, refl, sym, true}
+use Rattle.std.proofs.Common.{◌≡◌, ◌∙◌, ℕ, ◌+◌, ◌-◌, ◌*◌, ◌^◌, ◌/◌, ◌<◌, ◌≤◌, Bool, Option, None, Some, cond, ap, arith, refl, sym, false, true}
 use Rattle.std.proofs.lemmas.Bool.Decides.{nat_tests}
-use Rattle.std.specs.Prelude.{is_some, IsSome, IsTrue, ◌==◌, ◌↔◌}
-use Rattle.far_word.specs.declared.sizes.TheConstants.{CELLS, LOG_WORDS}
-use Rattle.far_word.specs.Pointer.{read_of}
+use Rattle.std.specs.Prelude.{is_some, IsSome, IsTrue, ◌==◌, ◌↔◌, ◌||◌}
+use Rattle.far_word.specs.declared.mark.Marks.{Marks}
+use Rattle.far_word.specs.declared.pointer.PtrWord.{PtrWord}
+use Rattle.far_word.specs.declared.sizes.TheConstants.{CELLS, LOG_WORDS, MOST_LOGS}
+use Rattle.far_word.specs.Pointer.{IsPtr, read_of}
 use Rattle.far_word.specs.Sizes.{words_for}
 use Rattle.far_word.proofs.PointerLaws.{read_says}
 use Rattle.far_word.specs.declared.pointer.Place.{Place}
-use Rattle.far_word.specs.declared.pointer.PtrWord.TheVariants.{Near}
+use Rattle.far_word.specs.declared.pointer.PtrWord.TheVariants.{Far, Free, Near}
 use Rattle.far_core.specs.declared.event.Event.{Event}
 use Rattle.far_core.specs.declared.event.Event.TheVariants.{Load, Store}
 use Rattle.far_core.specs.events.Legal.{Legal}
 use Rattle.far_core.specs.events.Next.{next_state}
+use Rattle.far_core.specs.events.Pin.{place_to_view}
 use Rattle.far_core.specs.events.Step.{Fits, after, data_len, data_word, holds, is_legal, near_data, near_len}
 use Rattle.far_core.specs.state.Law.{Law}
 use Rattle.far_core.specs.state.State.{State, addr}
@@ -57,6 +60,22 @@ data_inside s law p place held =
     let len : data_len s p ≡ near.len = ap near_len near.near in
     let says = read_says (s.cell p) (Near near.len near.ds place near.marks) (law.cells.cell_read p).0 near.near in
     omega (arith, word_inside s law p (words_for (data_len s p) - 1) place held (omega (arith, says.0, len)))
+
+-- where a view of a word may rest is a word of a log
+rests_near : (w len ds : ℕ) (m : Marks) (at place : Place) → IsPtr (Near len ds at m) → (b : Bool) → cond b None (Some at) ≡ Some place → (place.log < MOST_LOGS) × (place.at < LOG_WORDS)
+rests_near w len ds m at place ptr true is = absurd cc
+rests_near w len ds m at place ptr false is =
+    let same : at ≡ place = cc in
+    (omega (arith, ptr, ap (λ (x : Place). x.log) same), omega (arith, ptr, ap (λ (x : Place). x.at) same))
+
+rests_by : (w : ℕ) → w < 2 ^ 64 → (place : Place) (o : Option PtrWord) → read_of w ≡ o → place_to_view o ≡ Some place → (place.log < MOST_LOGS) × (place.at < LOG_WORDS)
+rests_by w fits place None e is = absurd cc
+rests_by w fits place (Some Free) e is = absurd cc
+rests_by w fits place (Some (Near len ds at m)) e is = rests_near w len ds m at place (read_says w (Near len ds at m) fits e).0 (m.evac || m.moved || m.dropped) is
+rests_by w fits place (Some (Far len ds m)) e is = absurd cc
+
+pub rests_inside : (w : ℕ) → w < 2 ^ 64 → (place : Place) → place_to_view (read_of w) ≡ Some place → (place.log < MOST_LOGS) × (place.at < LOG_WORDS)
+rests_inside w fits place is = rests_by w fits place (read_of w) refl is
 
 -- what is soiled is held
 pub soiled_held : (s : State) → Law s → (p : ℕ) → s.soiled p ≡ true → IsSome (s.held p)

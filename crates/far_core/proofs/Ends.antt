@@ -9,9 +9,10 @@ use Rattle.far_core.specs.declared.event.Kind.TheVariants.{Free}
 use Rattle.far_core.specs.declared.memory.Memory.{Memory}
 use Rattle.far_core.specs.declared.memory.jobs.Jobs.{Jobs}
 use Rattle.far_core.specs.laws.Ends.{HasNothingPast, IsWhatIsWithin}
-use Rattle.far_core.specs.state.Memory.{copying_of, state_of}
+use Rattle.far_core.specs.state.Memory.{copying_of, place_in, state_of}
 use Rattle.far_core.specs.state.State.{State}
-use Rattle.far_core.proofs.StoredRows.{stored_behind, stored_past}
+use Rattle.far_core.proofs.Bits.{past_bits}
+use Rattle.far_core.proofs.Words.{past_words}
 
 -- ---- the jobs and the copiers
 module _ (k : Jobs) where
@@ -49,8 +50,8 @@ module _ (k : Jobs) where
 pub has_nothing_past : (c : Memory) → HasNothingPast (state_of c)
 unfolding state_of
 has_nothing_past c = record {
-  words = λ a le. get_or_past c.words.items a 0 (omega (arith, le, c.words.ok.0, c.words_sized));
-  spans = λ a le. get_or_past c.starts.items a false (omega (arith, le, c.starts.ok.0, c.starts_sized));
+  words = λ a le. past_words c.words a (omega (arith, le, c.words_sized));
+  spans = λ a le. past_bits c.starts a (omega (arith, le, c.starts_sized));
   kinds = λ l le. get_or_past c.kinds.items l Free (omega (arith, le, c.kinds.ok.0, c.kinds_sized));
   tails = λ l le. get_or_past c.tails.items l 0 (omega (arith, le, c.tails.ok.0));
   rounds = λ l le. get_or_past c.round.items l false (omega (arith, le, c.round.ok.0, c.round_sized));
@@ -59,10 +60,10 @@ has_nothing_past c = record {
   clears = λ m le. get_or_past c.clear.items m false (omega (arith, le, c.clear.ok.0, c.clear_sized));
   cells = λ p le. get_or_past c.cells.items p 0 (omega (arith, le, c.cells.ok.0, c.cells_sized));
   uses = λ p le. get_or_past c.used.items p false (omega (arith, le, c.used.ok.0, c.used_sized));
-  holds = λ p le. ap (λ b. cond b (Some (get_or c.places.items p record { log = 0; at = 0 })) None) (get_or_past c.held.items p false (omega (arith, le, c.held.ok.0, c.held_sized)));
-  soils = λ p le. get_or_past c.soiled.items p false (omega (arith, le, c.soiled.ok.0, c.soiled_sized));
-  stores = λ p i le. stored_past c.stored p i (omega (arith, le, c.stored.row_of.ok.0, c.stored_sized));
-  rows = λ p i le. stored_behind c.stored p i le;
+  holds = λ p le. ap (λ b. cond b (Some (place_in (get_or c.places.items p 0))) None) (past_bits c.held p (omega (arith, le, c.held_sized)));
+  soils = λ p le. past_bits c.soiled p (omega (arith, le, c.soiled_sized));
+  stores = c.stored_ends.few;
+  rows = c.stored_ends.short;
   jobs = no_jobs c.jobs;
   tasks = no_tasks c.jobs;
   copies = no_copies c.jobs;

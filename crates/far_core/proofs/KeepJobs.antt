@@ -252,8 +252,8 @@ pub no_job : (j : ℕ) (job : Job) → job_at no_copying.word j ≢ Some job
 no_job j job e = let odd : None ≡ Some job = sym (ap job_said unworded) ∙ e in cc
 
 -- without jobs the law of jobs says nothing
-pub no_copies : (cell word : ℕ → ℕ) (starts round : ℕ → Bool) (epoch : ℕ) (clear : ℕ → Bool) → CopyLaw cell word starts round epoch clear no_copying
-no_copies cell word starts round epoch clear = record {
+pub no_copies : (has : Bool) (cell word : ℕ → ℕ) (starts round : ℕ → Bool) (epoch : ℕ) (clear : ℕ → Bool) → CopyLaw cell word starts round epoch clear record no_copying { has_copiers = has }
+no_copies has cell word starts round epoch clear = record {
   jobs = record {
     job_read = λ j. (omega arith, rw unworded refl);
     job_range = λ j ne. absurd (ne refl);

@@ -1,4 +1,5 @@
 pub mod Begins
+pub mod Bits
 pub mod Bounds
 pub mod Calls
 pub mod Cells
@@ -6,6 +7,7 @@ pub mod Copied
 pub mod CopierCalls
 pub mod Copies
 pub mod CopierRows
+pub mod DataBytes
 pub mod Ends
 pub mod Frames
 pub mod Guards
@@ -17,6 +19,7 @@ pub mod KeepJobs
 pub mod KeepOwner
 pub mod KeepPlace
 pub mod KeepWords
+pub mod Kept
 pub mod Keeps
 pub mod Leaving
 pub mod LiveLaws
@@ -41,12 +44,15 @@ pub mod RoomLaws
 pub mod RoundFacts
 pub mod Rows
 pub mod SpanFrames
+pub mod Splices
+pub mod Stored
 pub mod StoredAlready
 pub mod StoredRows
 pub mod Steps
 pub mod TakingCopies
 pub mod TakingSpans
 pub mod Touching
+pub mod Words
 pub mod WorldFacts
 pub mod WorldLaws
 pub mod Worlds

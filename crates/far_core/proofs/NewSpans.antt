@@ -76,7 +76,7 @@ touch_span s p new len place = record {
   soiled = λ q a b. refl;
   book = λ ne. absurd (ne refl);
   copiers = λ c ne. same_copier;
-  rest = (refl, refl, refl);
+  rest = (refl, refl, refl, refl);
 }
 
 -- the groups, where one log is sealed that was open and another is open

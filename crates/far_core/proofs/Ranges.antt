@@ -1,7 +1,6 @@
 -- Rows of stores, of puts, and of gets and puts: each is legal when it is made, the law stays, and together they write a row of words.
 use Rattle.std.proofs.Common.{true, ◌≡◌, ◌⊎◌, ℕ, zero, suc, List, Some, refl, sym, ap, subst, ◌∙◌, arith, ◌+◌, ◌-◌, ◌*◌, ◌/◌, ◌^◌, ◌<◌, ◌≤◌, length, cond}
 use Rattle.std.specs.Prelude.{◌≢◌, false, map, slice_index}
-use Rattle.std.specs.Vec.{with_item}
 use Rattle.std.specs.List.{range_with_len}
 use mathlib.Core.Path.{fun_ext}
 use Rattle.far_word.specs.Pointer.{read_of}
@@ -24,8 +23,9 @@ use Rattle.far_core.specs.state.Memory.{state_of}
 use Rattle.far_core.specs.state.State.{State, addr, put}
 use Rattle.far_core.proofs.Calls.{store_legal, word_behind}
 use Rattle.far_core.proofs.Owing.{is_test, keeps}
-use Rattle.far_core.proofs.PackedRows.{copy_first, set_put}
+use Rattle.far_core.proofs.PackedRows.{copy_first}
 use Rattle.far_core.proofs.Rows.{row_first, row_in, row_none, row_out}
+use Rattle.far_core.proofs.Words.{put_there, with_put}
 
 -- a row of events, of which event k writes word k of a row; Good stays from one to the next
 module _ (e : ℕ → Event) (d n : ℕ) (w : ℕ → ℕ) (Good : State → Type 0)
@@ -198,12 +198,12 @@ module _ (s : State) (law : Law s) (l a m b n : ℕ) (source : l < s.logs) (with
 -- ---- there is a core whose state is that after a put
 module _ (c : Core) (l at w : ℕ) (wide : w < 2 ^ 64) (legal : Legal (core_state c) (Put l at w)) where
   abbrev memory_put : Memory
-  memory_put = record c.memory { words = with_item c.memory.words (l * LOG_WORDS + at) w }
+  memory_put = record c.memory { words = with_put c.memory.words (l * LOG_WORDS + at) w }
 
   put_is : state_of memory_put ≡ after (core_state c) (Put l at w)
   unfolding state_of
   put_is = ap (λ (f : ℕ → ℕ). record (state_of c.memory) { word = f })
-      (set_put c.memory.words.items (l * LOG_WORDS + at) w (omega (arith, legal.0, legal.3, c.memory.words_sized, c.memory.words.ok.0)))
+      (put_there c.memory.words (l * LOG_WORDS + at) w wide (omega (arith, legal.0, legal.3, c.memory.words_sized)))
 
   pub core_put : (d : Core) × (core_state d ≡ after (core_state c) (Put l at w))
   core_put = (record { memory = memory_put; law = subst Law (sym put_is) (keeps (core_state c) (Put l at w) c.law wide legal) }, put_is)

@@ -48,6 +48,7 @@ module _ (s : State) (law : Law s) where
     claim_none = λ c j old le. refused s law (event.Claim c j old) (λ h. omega (arith, h.0, le));
     claim_again = λ c j old t has. refused s law (event.Claim c j old) (λ h. idle c t h.2 has);
     claim_unoffered = λ c j old ne. refused s law (event.Claim c j old) (λ h. ne (offered_stage old h.3.0 h.3.1));
+    claim_alone = λ c j old none. refused s law (event.Claim c j old) (λ h. false≢true (sym none ∙ h.4));
     claim_off_layout = λ c j old none. refused s law (event.Claim c j old) (λ h. let odd : None ≡ Some (Offered h.3.0) = sym none ∙ h.3.1 in cc);
     length_idle = λ c none. refused s law (event.ReadLength c) (λ h. idle c h.0 none h.1);
     read_idle = λ c i none. refused s law (event.Read c i) (λ h. idle c h.0 none h.1);

@@ -82,12 +82,12 @@ row_last word a n row at x here is = row_is word (put (with_row word a n row) at
     ]))
 
 -- ---- a row written over a part of a list
-written_in : {X : Type 0} (xs ys : List X) (d : X) (a k q : ℕ) → k ≡ length ys → a + k ≤ length xs → a ≤ q → q < a + length ys → get_or (put_mid a k xs ys) q d ≡ get_or ys (q - a) d
+pub written_in : {X : Type 0} (xs ys : List X) (d : X) (a k q : ℕ) → k ≡ length ys → a + k ≤ length xs → a ≤ q → q < a + length ys → get_or (put_mid a k xs ys) q d ≡ get_or ys (q - a) d
 written_in xs ys d a k q n fits low high =
     get_or-append_right (take a xs) (ys ++ post_of a k xs) a q d (length-take-le a xs (omega arith)) low
     ∙ get_or_append_left ys (post_of a k xs) d (q - a) (omega arith)
 
-written_out : {X : Type 0} (xs ys : List X) (d : X) (a k q : ℕ) → k ≡ length ys → a + k ≤ length xs → (q < a) ⊎ (a + length ys ≤ q) → get_or (put_mid a k xs ys) q d ≡ get_or xs q d
+pub written_out : {X : Type 0} (xs ys : List X) (d : X) (a k q : ℕ) → k ≡ length ys → a + k ≤ length xs → (q < a) ⊎ (a + length ys ≤ q) → get_or (put_mid a k xs ys) q d ≡ get_or xs q d
 written_out xs ys d a k q n fits (inl low) =
     let long : length (take a xs) ≡ a = length-take-le a xs (omega arith) in
     get_or_append_left (take a xs) (ys ++ post_of a k xs) d q (omega (arith, long)) ∙ get_or-take a xs q d low
@@ -97,7 +97,7 @@ written_out xs ys d a k q n fits (inr high) =
     ∙ get_or-drop k (drop a xs) (q - a - length ys) d ∙ get_or-drop a xs (k + (q - a - length ys)) d
     ∙ (let at : a + (k + (q - a - length ys)) ≡ q = omega arith in ap (λ i. get_or xs i d) at)
 
-written_len : {X : Type 0} (a k : ℕ) (xs ys : List X) → a + k ≤ length xs → length ys ≡ k → length (put_mid a k xs ys) ≡ length xs
+pub written_len : {X : Type 0} (a k : ℕ) (xs ys : List X) → a + k ≤ length xs → length ys ≡ k → length (put_mid a k xs ys) ≡ length xs
 written_len a k xs ys fits same = omega (arith, length-append (take a xs) (ys ++ post_of a k xs), length-append ys (post_of a k xs), length-take-le a xs (omega arith), length-drop k (drop a xs), length-drop a xs)
 
 module _ {Z : Type 0} (v : Vec ℕ Z) (xs ys : List ℕ) (a k : ℕ) (same : xs ≡ v.items) where

@@ -1,5 +1,5 @@
 -- Each step makes its step of the world, with its reply, and keeps views on what they may rest on.
-use Rattle.std.proofs.Common.{List, [], ap, cond, false, refl, subst, sym, ◌++◌, ◌/◌, ◌∙◌, ◌∷◌, ◌≡◌}
+use Rattle.std.proofs.Common.{Bool, List, [], ap, cond, false, true, refl, subst, sym, ◌++◌, ◌/◌, ◌∙◌, ◌∷◌, ◌≡◌}
 use Rattle.std.proofs.lemmas.Bool.{cond_both, false_from_ne_true}
 use Rattle.std.specs.Prelude.{map}
 use Rattle.far_core.proofs.Cells.{held_near}
@@ -47,6 +47,18 @@ module _ (s t : State) (r : Reply) (e : Event) (law : Law s) (fits : Fits e) (is
   turned h = let both : (t, r) ≡ (s, Refused) = is ∙ ap (λ b. cond b (after s e, answer s e) (s, Refused)) (not_legal h) in (ap (λ x. x.0) both, ap (λ x. x.1) both) where
     not_legal : ¬ (Legal s e) → is_legal s e ≡ false
     not_legal no_way = false_from_ne_true (is_legal s e) (λ yes. no_way (is_fact s e law yes))
+
+-- ---- one step that was made where it could be told, and refused where not
+module _ (s t : State) (r : Reply) (e : Event) (law : Law s) where
+  pub law_told : (told : Bool) → (told ≡ true → Fits e) → (told ≡ true → (t, r) ≡ step_of s e) → (told ≡ false → (t ≡ s) × (r ≡ Refused)) → Law t
+  law_told true fits is un = (passes s t r e law (fits refl) (is refl)).law
+  law_told false fits is un = subst Law (sym (un refl).0) law
+
+  pub happens_told : (told : Bool) → (told ≡ true → Fits e) → (told ≡ true → (t, r) ≡ step_of s e) → (told ≡ false → (t ≡ s) × (r ≡ Refused)) → Happens (world_of s) e r (world_of t)
+  happens_told true fits is un = happens s t r e law (fits refl) (is refl)
+  happens_told false fits is un =
+      let both : (s, Refused) ≡ (t, r) = (λ i. (sym (un refl).0 i, sym (un refl).1 i)) in
+      subst (λ (x : State × Reply). Happens (world_of s) e x.1 (world_of x.0)) both refl
 
 module _ (s t : State) (r : Reply) (e : Event) (law : Law s) (fits : Fits e) (is : (t, r) ≡ step_of s e) where
   -- a reply Refused says that the event wasn't legal

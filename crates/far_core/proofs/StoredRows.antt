@@ -1,8 +1,10 @@
 -- Stored words: a row for each pointer that has one.
-use Rattle.std.proofs.Common.{◌≡◌, ℕ, suc, ◌+◌, ◌-◌, ◌*◌, ◌<◌, ◌≤◌, ◌≢◌, ◌∙◌, cond, nat_lt, arith, ap, sym, subst, inl, inr, List, [], ◌∷◌, length, drop, get_or}
-use Rattle.std.specs.Prelude.{◌⊎◌, slice_range}
+use Rattle.std.proofs.Common.{◌≡◌, ℕ, suc, ◌+◌, ◌-◌, ◌*◌, ◌<◌, ◌≤◌, ◌≢◌, ◌∙◌, cond, nat_lt, arith, ap, sym, subst, inl, inr, List, [], ◌∷◌, ◌++◌, length, drop, take, get_or}
+use Rattle.std.specs.Prelude.{◌⊎◌, replicate, slice_range}
 use Rattle.std.specs.List.{sum_by}
-use Rattle.std.specs.Vec.{vec_capacity, vec_len}
+use Rattle.std.specs.Vec.{vec_capacity, vec_len, with_items}
+use Rattle.std.specs.declared.vec.Vec.{Vec}
+use borrow.Rule.Slice.PartMut.{put_mid}
 use Rattle.std.proofs.lemmas.Bool.{cases_eq, cases_lt, lt-ltb, le-ltb}
 use Rattle.std.proofs.lemmas.List.{get_or-take, get_or-drop, get_or_past, get_or-set_same, get_or-set_other, length-drop, length-take-le, length-set}
 use Rattle.std.proofs.lemmas.List.Sums.{sum_by-cons, sum_by-set}
@@ -17,12 +19,13 @@ use Rattle.far_core.specs.state.Rows.{AreApart, HalfOrAll, RowsAreApart, RowsFit
 use Rattle.far_core.specs.state.State.{put}
 use Rattle.far_core.specs.state.StoredRows.{stored_in}
 use Rattle.far_core.proofs.Put.{put_both}
-use Rattle.far_core.proofs.Rows.{row_in, row_out}
+use Rattle.far_core.proofs.CopierRows.{none_behind}
+use Rattle.far_core.proofs.Rows.{row_in, row_out, row_written}
 
-within : (b : ℕ) (x y j : ℕ) → j < b → cond (nat_lt j b) x y ≡ x
+pub within : (b : ℕ) (x y j : ℕ) → j < b → cond (nat_lt j b) x y ≡ x
 within b x y j lt = ap (λ t. cond t x y) (lt-ltb j b lt)
 
-beyond : (b : ℕ) (x y j : ℕ) → b ≤ j → cond (nat_lt j b) x y ≡ y
+pub beyond : (b : ℕ) (x y j : ℕ) → b ≤ j → cond (nat_lt j b) x y ≡ y
 beyond b x y j le = ap (λ t. cond t x y) (le-ltb j b le)
 
 -- a word of a row, and past its end
@@ -191,6 +194,23 @@ module _ (row_of : List Row) (apart : RowsAreApart row_of) (p : ℕ) (xs ys zs :
   pub row_kept : (λ (q : ℕ). row_word ys (row_at row_of q)) ≡ put (λ q. row_word xs (row_at row_of q)) p (with_first (length zs) (λ i. get_or zs i 0) (row_word xs its))
   row_kept = fun_ext (λ q. put_both (λ (x : ℕ → ℕ). row_word ys (row_at row_of q) ≡ x) (λ q. row_word xs (row_at row_of q)) p (with_first (length zs) (λ i. get_or zs i 0) (row_word xs its)) q
       (λ e. fun_ext (λ j. ap (λ (r : ℕ). row_word ys (row_at row_of r) j) e ∙ its_row j)) (λ ne. fun_ext (λ j. other_row q ne j)))
+
+-- ---- a list made longer by zeros, where a row is written at its old end
+module _ {Z : Type 0} (xs : List ℕ) (v : Vec ℕ Z) (hs ys zs : List ℕ) (a m n k c : ℕ) (len : m ≡ length xs) (end : a ≡ m) (longer : v.items ≡ take (a + n) xs ++ replicate (a + n - m) 0)
+    (same : hs ≡ v.items) (is : ys ≡ zs) (size : k ≡ c) (long : length zs ≡ c) (fits : a + c ≤ length v.items) where
+  now_there : (q : ℕ) → get_or (with_items v (put_mid a k hs ys)).items q 0 ≡ with_row (λ q. get_or xs q 0) a (length zs) (λ i. get_or zs i 0) q
+  now_there q = ap (λ (f : ℕ → ℕ). f q) (row_written v hs ys a k same zs is (size ∙ sym long) (omega (arith, long, fits))
+      ∙ ap (λ (f : ℕ → ℕ). with_row f a (length zs) (λ i. get_or zs i 0)) (fun_ext (none_behind 0 xs v.items m (a + n) len (omega (arith, end)) longer)))
+
+  pub before_end : (q : ℕ) → q < m → get_or (with_items v (put_mid a k hs ys)).items q 0 ≡ get_or xs q 0
+  before_end q lt = now_there q ∙ row_out (λ q. get_or xs q 0) a (length zs) (λ i. get_or zs i 0) q (inl (omega (arith, lt, end)))
+
+  pub at_end : (i : ℕ) → i < c → get_or (with_items v (put_mid a k hs ys)).items (m + i) 0 ≡ get_or zs i 0
+  at_end i lt = now_there (m + i) ∙ row_in (λ q. get_or xs q 0) a (length zs) (λ i. get_or zs i 0) (m + i) (omega (arith, end)) (omega (arith, end, long, lt))
+      ∙ (let at : m + i - a ≡ i = omega (arith, end) in ap (λ j. get_or zs j 0) at)
+
+  pub behind_end : (q : ℕ) → m + c ≤ q → get_or (with_items v (put_mid a k hs ys)).items q 0 ≡ 0
+  behind_end q le = now_there q ∙ row_out (λ q. get_or xs q 0) a (length zs) (λ i. get_or zs i 0) q (inr (omega (arith, end, long, le))) ∙ get_or_past xs q 0 (omega (arith, le, len))
 
 -- ---- words that are a part of others
 -- a part of a list has as many words as are taken

@@ -48,7 +48,7 @@ module _ {s : State} {x : Touch} {scope cell word : ℕ → ℕ} {remembered : �
       → ((p : ℕ) → x.part ≢ Uses p → used p ≡ s.used p)
       → ((p : ℕ) → x.part ≢ Rests p → x.part ≢ LetsGo (p / CELLS) → held p ≡ s.held p)
       → Touches s x record s { scope = scope; cell = cell; word = word; remembered = remembered; used = used; held = held }
-  touched a b c d = record { words = a; remembered = b; used = c; held = d; soiled = λ q a b. refl; book = λ ne. (refl, refl, refl, refl, refl, refl, refl, refl, refl, refl); copiers = λ c ne. same_copier; rest = (refl, refl, refl) }
+  touched a b c d = record { words = a; remembered = b; used = c; held = d; soiled = λ q a b. refl; book = λ ne. (refl, refl, refl, refl, refl, refl, refl, refl, refl, refl); copiers = λ c ne. same_copier; rest = (refl, refl, refl, refl) }
 
 -- the same where what owners have soiled changes too
 module _ {s : State} {x : Touch} {scope cell word : ℕ → ℕ} {remembered : ℕ → Option ℕ} {used : ℕ → Bool} {held : ℕ → Option Place} {soiled : ℕ → Bool} where
@@ -58,7 +58,7 @@ module _ {s : State} {x : Touch} {scope cell word : ℕ → ℕ} {remembered : �
       → ((p : ℕ) → x.part ≢ Rests p → x.part ≢ LetsGo (p / CELLS) → held p ≡ s.held p)
       → ((p : ℕ) → x.part ≢ Soils p → x.part ≢ LetsGo (p / CELLS) → soiled p ≡ s.soiled p)
       → Touches s x record s { scope = scope; cell = cell; word = word; remembered = remembered; used = used; held = held; soiled = soiled }
-  touched_soiled a b c d f = record { words = a; remembered = b; used = c; held = d; soiled = f; book = λ ne. (refl, refl, refl, refl, refl, refl, refl, refl, refl, refl); copiers = λ c ne. same_copier; rest = (refl, refl, refl) }
+  touched_soiled a b c d f = record { words = a; remembered = b; used = c; held = d; soiled = f; book = λ ne. (refl, refl, refl, refl, refl, refl, refl, refl, refl, refl); copiers = λ c ne. same_copier; rest = (refl, refl, refl, refl) }
 
 pub untouched : (s : State) (x : Touch) → Touches s x s
 untouched s x = touched (λ a ne. refl) (λ k a b. refl) (λ q a. refl) (λ q a b. refl)
@@ -69,9 +69,9 @@ by_owner event m p q own e = ap (λ k. event k p) (sym own) ∙ ap (λ k. event 
 
 -- what a copier's event touches: its own view, and a word
 module _ {s : State} {spot : Option Spot} {word : ℕ → ℕ} {k : Copying} (c : ℕ) where
-  pub copier_touched : ((a : Spot) → spot ≢ Some a → spot_word s.epoch s.scope s.cell word k.word a ≡ shared_word s a) → k.since ≡ s.copying.since → k.named ≡ s.copying.named →
+  pub copier_touched : ((a : Spot) → spot ≢ Some a → spot_word s.epoch s.scope s.cell word k.word a ≡ shared_word s a) → k.since ≡ s.copying.since → k.named ≡ s.copying.named → k.has_copiers ≡ s.copying.has_copiers →
       ((d : ℕ) → d ≢ c → SameCopier d s.copying k) → Touches s (record { word = spot; part = CopierAt c }) record s { word = word; copying = k }
-  copier_touched words since named others = record {
+  copier_touched words since named has others = record {
     words = words;
     remembered = λ m a b. refl;
     used = λ p a. refl;
@@ -79,5 +79,5 @@ module _ {s : State} {spot : Option Spot} {word : ℕ → ℕ} {k : Copying} (c 
     soiled = λ p a b. refl;
     book = λ ne. (refl, refl, refl, refl, refl, refl, refl, refl, since, named);
     copiers = λ d ne. others d (λ e. ne (ap CopierAt (sym e)));
-    rest = (refl, refl, refl);
+    rest = (refl, refl, refl, has);
   }

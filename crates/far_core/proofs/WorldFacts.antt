@@ -14,7 +14,7 @@ use Rattle.far_core.specs.declared.event.Kind.{Kind}
 use Rattle.far_core.specs.declared.event.Kind.TheVariants as kinds
 use Rattle.far_core.specs.declared.shape.Shape.{Shape}
 use Rattle.far_core.specs.state.Law.{Law}
-use Rattle.far_core.specs.state.Opening.{opening}
+use Rattle.far_core.specs.state.Opening.{for_copiers, opening}
 use Rattle.far_core.specs.state.State.{State, put, addr}
 use Rattle.far_core.specs.world.World.{Object, Group, FarSide, start}
 use Rattle.far_core.specs.laws.Agreement.{ViewRests, MarksAgree, MarksExist}
@@ -77,9 +77,9 @@ unfolding world_of
 marks_exist s p h = at_marked s.word (s.stored p) p (read_of (s.cell p)) h
 
 -- the opening state means the world at the start
-pub opening_world : (shape : Shape) (honest : Bool) → world_of (opening shape honest) ≡ start honest
+pub opening_world : (has : Bool) (shape : Shape) (honest : Bool) → world_of (for_copiers has (opening shape honest)) ≡ start honest
 unfolding world_of
-opening_world shape honest = World-ext _ _
+opening_world has shape honest = World-ext _ _
     (fun_ext (λ p. ap (object_of (λ _. 0) (λ _. 0) p) unused))
     refl refl
     (fun_ext (λ p. ap is_marked unused))

@@ -40,4 +40,5 @@ pub mod Store
 pub mod Tasks
 pub mod Touch
 pub mod Write
+pub mod Written
 pub mod namings

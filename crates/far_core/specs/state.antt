@@ -1,7 +1,9 @@
 pub mod Agrees
+pub mod Bits
 pub mod CopierRows
 pub mod CoreState
 pub mod Jobs
+pub mod Kept
 pub mod Law
 pub mod Memory
 pub mod Opening
@@ -10,4 +12,6 @@ pub mod Rows
 pub mod Shape
 pub mod Spans
 pub mod State
+pub mod Stored
 pub mod StoredRows
+pub mod Words

@@ -135,7 +135,7 @@ pub enum Event {
         job: u8,
     },
     /// A copier without a job takes an offered one, where its word is `old`, which offers a job. Answers `Done` then, and
-    /// `Word` with the job's word, which stays, else.
+    /// `Word` with the job's word, which stays, else. Refused in a core without copiers.
     Claim {
         copier: u8,
         job: u8,

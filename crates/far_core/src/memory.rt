@@ -1,9 +1,12 @@
 //! The words of a core and what each seat knows of them, as plain data.
 
 ghost use Rattle.std.specs.Prelude.{◌≡◌, ◌*◌, ◌<◌, ◌≤◌};
+ghost use Rattle.std.specs.Option.{ForSome};
 ghost use Rattle.std.specs.Vec.{vec_len};
+ghost use Rattle.far_core.specs.state.Stored.{RowsAre, StoredEnds, stored_by};
 ghost use Rattle.far_word.specs.declared.sizes.TheConstants.{CELLS, LOG_WORDS, MOST_LOGS, MOST_MUTATORS};
 
+pub(crate) mod bits;
 mod book;
 mod copies;
 mod copying;
@@ -14,13 +17,17 @@ mod quiet;
 mod ranges;
 pub(crate) mod reading;
 mod round;
+pub(crate) mod stored;
 pub(crate) mod stored_rows;
+pub(crate) mod words;
 mod writing;
 
 use crate::event::Kind;
+use crate::memory::bits::Bits;
 use crate::memory::jobs::Jobs;
+use crate::memory::stored::Stored;
 use crate::memory::stored_rows::StoredRows;
-use far_word::Place;
+use crate::memory::words::Words;
 
 /// The words and views. All its memory is taken when it is made.
 #[derive(Drop)]
@@ -30,24 +37,26 @@ pub(crate) struct Memory {
     pub(crate) epoch: u64,
     pub(crate) scopes: Vec<u64>,
     pub(crate) cells: Vec<u64>,
-    pub(crate) words: Vec<u64>,
+    pub(crate) words: Words,
     // The owners' views.
     pub(crate) remembered: Vec<Option<u64>>,
     pub(crate) used: Vec<bool>,
-    // Which pointers are held, and at which places.
-    pub(crate) held: Vec<bool>,
-    pub(crate) places: Vec<Place>,
-    pub(crate) soiled: Vec<bool>,
+    // Which pointers are held, and at which words of the logs.
+    pub(crate) held: Bits,
+    pub(crate) places: Vec<u16>,
+    pub(crate) soiled: Bits,
     // The book's view.
     pub(crate) kinds: Vec<Kind>,
     pub(crate) tails: Vec<u16>,
     pub(crate) current: u8,
-    pub(crate) starts: Vec<bool>,
+    pub(crate) starts: Bits,
     pub(crate) round: Vec<bool>,
     pub(crate) round_epoch: u64,
     pub(crate) clear: Vec<bool>,
-    // The words of objects that are far, or near without DIRTY, as they were stored.
-    pub(crate) stored: StoredRows,
+    // The words of objects that are far, or near without DIRTY, as they were stored: for clauses; and to be read, where they are
+    // kept.
+    pub(crate) stored: Stored,
+    pub(crate) rows: Option<StoredRows>,
     // The jobs and the copiers.
     pub(crate) jobs: Jobs,
     ghost remembered_sized: { vec_len remembered ≡ vec_len scopes },
@@ -56,13 +65,14 @@ pub(crate) struct Memory {
     ghost few_logs: { vec_len tails ≤ MOST_LOGS },
     ghost few_mutators: { vec_len scopes ≤ MOST_MUTATORS },
     ghost cells_sized: { vec_len cells ≡ CELLS * vec_len scopes },
-    ghost words_sized: { vec_len words ≡ LOG_WORDS * vec_len tails },
-    ghost starts_sized: { vec_len starts ≡ LOG_WORDS * vec_len tails },
+    ghost words_sized: { vec_len words.bytes ≡ 8 * (LOG_WORDS * vec_len tails) },
+    ghost starts_sized: { 64 * vec_len starts.words ≡ LOG_WORDS * vec_len tails },
     ghost used_sized: { vec_len used ≡ CELLS * vec_len scopes },
-    ghost held_sized: { vec_len held ≡ CELLS * vec_len scopes },
+    ghost held_sized: { 64 * vec_len held.words ≡ CELLS * vec_len scopes },
     ghost places_sized: { vec_len places ≡ CELLS * vec_len scopes },
-    ghost soiled_sized: { vec_len soiled ≡ CELLS * vec_len scopes },
+    ghost soiled_sized: { 64 * vec_len soiled.words ≡ CELLS * vec_len scopes },
     ghost round_sized: { vec_len round ≡ vec_len tails },
     ghost clear_sized: { vec_len clear ≡ vec_len scopes },
-    ghost stored_sized: { vec_len stored.row_of ≡ CELLS * vec_len scopes },
+    ghost stored_ends: { StoredEnds (CELLS * vec_len scopes) stored.items },
+    ghost rows_are: { ForSome rows (λ rows. RowsAre (CELLS * vec_len scopes) (stored_by stored.items) rows) },
 }

@@ -19,4 +19,5 @@ pub mod Reading
 pub mod RoundSteps
 pub mod Sight
 pub mod Staying
+pub mod Told
 pub mod Unviewed

@@ -152,7 +152,7 @@ went_on s j w task length read written found = record {
 
 -- a copier takes a job
 claims : (s : State) (c j old : ℕ) → Legal s (Claim c j old) → OthersChange s (after s (Claim c j old))
-claims s c j old (few, low, none, (job, offers)) = rw offers (cond_both (s.copying.word j == old) (claimed s c j job) s (OthersChange s)
+claims s c j old (few, low, none, (job, offers), has) = rw offers (cond_both (s.copying.word j == old) (claimed s c j job) s (OthersChange s)
     (λ e.
     let was : job_of (s.copying.word j) ≡ Some (Offered job) = ap job_of (eqb-true (s.copying.word j) old e) ∙ offers in
     let is : job_of (job_word (Taken job c)) ≡ Some (Taken job c) = job_back (Taken job c) ((job_says (s.copying.word j) (Offered job) was).0, few) in

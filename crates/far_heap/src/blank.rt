@@ -54,7 +54,7 @@ impl<D: Device + Drop> Blank<D> {
         ensures shape { (result ≡ Err Refused.Shape) ↔ (is_shape shape ≡ false) }
         ensures refused { IfErr result (λ why. why ≡ cond (is_shape shape) Refused.Memory Refused.Shape) }
     {
-        let core = match Core::new(alloc, shape, false) {
+        let core = match Core::without_stored(alloc, shape, false) {
             Ok(core) => core,
             Err(why) => return Err(why),
         };

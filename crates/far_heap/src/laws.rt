@@ -17,7 +17,7 @@ pub fn refusals_are_so()
 {}
 
 /// A value that was written comes back. Where the far side is honest, byte `k` of a write from byte `from` on stands at byte `from + k` of the object, and a read of as many
-/// bytes from there on gives them, as whatever value, and isn't refused. Where a write is refused, a read of as many bytes is refused for the same cause.
+/// bytes from there on gives the value that they make, and isn't refused. Where a write is refused, a read of as many bytes is refused for the same cause.
 pub fn values_come_back()
     ensures { ValuesComeBack }
 {}

@@ -78,8 +78,8 @@ impl<K: HeapName, D: Device + Drop> Mutator<K, D> {
     /// Makes a new object of `len` zero bytes, 1 to 4,088, of data structure `ds`, a number of the program's own choice: its pointer, which the mutator didn't use. It
     /// takes the lock.
     ///
-    /// Refused, in this order: [`Refused::Length`] exactly where the length is out of range; [`Refused::NoPointer`] only where, as the lock was held, none
-    /// of the mutator's 256 cells was free; [`Refused::NoRoom`] only where one was, but there was no room in the open log, and at most one log was free.
+    /// Refused, in this order: [`Refused::Length`] exactly where the length is out of range; [`Refused::NoPointer`] exactly where the mutator uses all of its
+    /// 256 pointers; [`Refused::NoRoom`] only where it has one left, but, as the lock was held, there was no room in the open log, and at most one log was free.
     /// Nothing has changed then.
     #[inline(always)]
     pub fn alloc<R: Wait>(&mut self, rt: &R, len: u16, ds: u8) -> Result<u16, Refused>

@@ -18,7 +18,7 @@ use Rattle.far_evac.proofs.Strays.{no_round}
 
 -- the law holds of the first state
 pub opening_law : (logs mutators epoch : ℕ) (honest : Bool) → is_shape (shape_of logs mutators epoch) ≡ true → Law (first_moment logs mutators epoch honest).core
-opening_law logs mutators epoch honest fits = begins (shape_of logs mutators epoch) honest fits
+opening_law logs mutators epoch honest fits = begins true (shape_of logs mutators epoch) honest fits
 
 -- in the first state no cell is named
 pub opening_between : (logs mutators epoch : ℕ) (honest : Bool) → is_shape (shape_of logs mutators epoch) ≡ true → Between (first_moment logs mutators epoch honest).core

@@ -1,10 +1,9 @@
 -- Reads and writes of a range: what the calls of the core ask for, and what the commands come to.
-use Rattle.std.proofs.Common.{[], ◌≡◌, ℕ, ◌+◌, ◌-◌, ◌*◌, ◌/◌, ◌^◌, ◌<◌, ◌≤◌, Bool, true, false, not, nat_eq, nat_lt, List, ◌∷◌, ◌++◌, length, take, get_or, refl, sym, ap, subst, ◌∙◌, arith, is_some, length-take-le, Option, Some, None, if◌then◌else◌}
+use Rattle.std.proofs.Common.{[], ◌≡◌, ℕ, ◌+◌, ◌-◌, ◌*◌, ◌/◌, ◌^◌, ◌<◌, ◌≤◌, Bool, true, false, not, nat_eq, nat_lt, List, ◌∷◌, ◌++◌, length, get_or, refl, sym, ap, subst, ◌∙◌, arith, is_some, Option, Some, None, if◌then◌else◌}
 use Rattle.std.specs.Prelude.{slice_index, slice_range, IsSome, map}
 use Rattle.std.specs.List.{range_with_len}
 use Rattle.std.proofs.lemmas.Bool.{and_parts, eq-eqb, false≢true}
 use Rattle.std.proofs.lemmas.Bool.Decides.{nat_tests}
-use Rattle.std.proofs.lemmas.List.{get_or-take}
 use Rattle.far_word.specs.Bytes.{packed_word}
 use Rattle.far_word.specs.Pointer.{IsPtr, pointer_len, read_of}
 use Rattle.far_word.specs.Sizes.{words_for}
@@ -12,13 +11,13 @@ use Rattle.far_word.specs.declared.pointer.PtrWord.{PtrWord}
 use Rattle.far_word.specs.declared.pointer.PtrWord.TheVariants.{Free, Near, Far}
 use Rattle.far_word.specs.declared.refused.Refused.TheVariants.{NoRoom, Closed, NotHeld, Range}
 use Rattle.far_word.specs.declared.sizes.TheConstants.{CELLS, LONGEST}
-use Rattle.far_word.proofs.ByteLaws.{length-bytes_of}
 use Rattle.far_word.proofs.PointerLaws.{read_says}
 use Rattle.far_core.specs.declared.event.Event.{Event}
 use Rattle.far_core.specs.declared.event.Event.TheVariants.{Load as Loads, Store as Stores}
 use Rattle.far_core.specs.events.Ranges.{stores}
 use Rattle.far_core.specs.events.Soil.{after_soil}
-use Rattle.far_core.specs.events.Step.{data_len, is_opened, near_data}
+use Rattle.far_core.specs.events.Step.{data_len, data_word, is_opened}
+use Rattle.far_core.specs.events.Written.{written_words}
 use Rattle.far_core.specs.state.Law.{Law}
 use Rattle.far_core.specs.state.State.{State}
 use Rattle.far_text.specs.Command.{Command, Mutator, Read, View, Write}
@@ -32,11 +31,11 @@ use Rattle.far_replay.specs.Objects.{data_of, is_range, named_len, object_len, w
 use Rattle.far_reply.specs.Reply.{Reply, Data, Refused}
 use Rattle.far_replay.specs.Turn.{access_causes, effect, first_cause, refusal, refused_effect, reply_to, turn_effect, turn_reply, unless}
 use Rattle.far_replay.specs.declared.turn.Access.{Access}
-use Rattle.far_replay.proofs.AloneStates.{data_small}
+use Rattle.far_core.proofs.Splices.{written_get, written_long}
 use Rattle.far_replay.proofs.Dereferences.{Derefs, derefs}
-use Rattle.far_replay.proofs.RangeWrites.{rows_same}
+use Rattle.far_replay.proofs.RangeWrites.{object_padded, rows_same, written_word}
 use Rattle.far_replay.proofs.Soiling.{soil_bytes, soil_len}
-use Rattle.far_replay.proofs.Spliced.{AreBytes, length-with_range, packed_padded, with_range_bytes}
+use Rattle.far_replay.proofs.Spliced.{AreBytes}
 use Rattle.far_replay.proofs.Turns.{stores_lead}
 use Rattle.far_replay.proofs.Turns.{Access as Reached}
 
@@ -108,42 +107,32 @@ soiled_range s t a law is room to =
     }
 
 -- ---- the stores of a write
--- an object's bytes with others in place are padded words
-pub with_range_padded : (t : State) (p from : ℕ) (new : List ℕ) → AreBytes new → from + length new ≤ data_len t p → (i : ℕ) → i < words_for (data_len t p) →
-    packed_word (with_range (data_of t p) from new) i < 2 ^ (8 * (data_len t p - 8 * i))
-with_range_padded t p from new small inside i lt =
-    let long : length (data_of t p) ≡ data_len t p = length-bytes_of (λ k. t.word (near_data (read_of (t.cell p)) + k)) (data_len t p) in
-    let within : from + length new ≤ length (data_of t p) = omega (arith, long) in
-    packed_padded (with_range (data_of t p) from new) (data_len t p) i (with_range_bytes (data_of t p) from new within (data_small t p) small)
-    (length-with_range (data_of t p) from new within ∙ long) lt
+module _ (t : State) (law : Law t) (a : Access) (new : List ℕ) (view : IsViewed t a) (long : length new ≡ a.count) where
+  abbrev word : ℕ → ℕ
+  word i = t.word (data_word t a.pointer i)
 
--- stores of the first words of a row, where these are those of some bytes
-pub front_stores : (m p first count : ℕ) (words after : List ℕ) → count ≤ length words → ((i : ℕ) → i < count → get_or words i 0 ≡ packed_word after (first + i)) →
-    stores m p first (take count words) ≡ store_events m p first count after
-front_stores m p first count words after fits h =
-    (λ i. row (long i)) ∙ rows_same (Loads 0 0 0) (λ i. Stores m p (first + i) (slice_index (take count words) i)) (λ i. Stores m p i (packed_word after i)) 0 first count
-    (λ i lt. let here : 0 + i ≡ i = omega arith in
-    ap (λ k. Stores m p (first + k) (slice_index (take count words) k)) here ∙ ap (Stores m p (first + i)) (get_or-take count words i 0 lt ∙ h i lt)) where
-      long : length (take count words) ≡ count
-      long = length-take-le count words fits
+  abbrev after : List ℕ
+  after = with_range (data_of t a.pointer) a.from new
 
-      row : ℕ → List Event
-      row n = map (λ i. Stores m p (first + i) (slice_index (take count words) i)) (range_with_len 0 n)
+  abbrev row : ℕ → List Event
+  row n = map (λ i. Stores a.owner a.pointer (first_word a.from + i) (slice_index (written_words word a.from new) i)) (range_with_len 0 n)
 
-module _ (t : State) (a : Access) (new words : List ℕ) (view : IsViewed t a) (small : AreBytes new) (long : length new ≡ a.count)
-    (fits : words_touched a.from a.count ≤ length words)
-    (with_range_in : (k : ℕ) → k < words_touched a.from a.count → get_or words k 0 ≡ packed_word (with_range (data_of t a.pointer) a.from new) (first_word a.from + k)) where
-  -- the words may be stored
-  pub stores_padded : (k : ℕ) → k < words_touched a.from a.count → get_or words k 0 < 2 ^ (8 * (data_len t a.pointer - 8 * (first_word a.from + k)))
-  stores_padded k lt =
-      subst (λ w. w < 2 ^ (8 * (data_len t a.pointer - 8 * (first_word a.from + k)))) (sym (with_range_in k lt))
-      (with_range_padded t a.pointer a.from new small (omega (arith, view.inside)) (first_word a.from + k) (omega (arith, view.inside, view.some)))
+  touched : length (written_words word a.from new) ≡ words_touched a.from a.count
+  touched = written_long word a.from new ∙ ap (λ n. words_for (a.from + n) - first_word a.from) long
 
-  -- their stores are those of the new bytes
-  pub stores_made : (u : State) → u ≡ after_events t (stores a.owner a.pointer (first_word a.from) (take (words_touched a.from a.count) words)) →
-      u ≡ after_events t (store_events a.owner a.pointer (first_word a.from) (words_touched a.from a.count) (with_range (data_of t a.pointer) a.from new))
-  stores_made u stored =
-      stored ∙ ap (after_events t) (front_stores a.owner a.pointer (first_word a.from) (words_touched a.from a.count) words (with_range (data_of t a.pointer) a.from new) fits with_range_in)
+  -- a word that is written is the object's with the new bytes in place
+  word_made : (i : ℕ) → i < words_touched a.from a.count → get_or (written_words word a.from new) i 0 ≡ packed_word after (first_word a.from + i)
+  word_made i lt =
+      written_get word a.from new i (omega (arith, lt, long))
+      ∙ written_word word (data_len t a.pointer) a.from new (omega (arith, long, view.inside)) (object_padded t law a.pointer) (first_word a.from + i) (omega (arith, lt, view.inside))
+
+  -- the stores of the words that are written are those of the new bytes
+  pub stores_made : stores a.owner a.pointer (first_word a.from) (written_words word a.from new) ≡ store_events a.owner a.pointer (first_word a.from) (words_touched a.from a.count) after
+  stores_made =
+      ap row touched
+      ∙ rows_same (Loads 0 0 0) (λ i. Stores a.owner a.pointer (first_word a.from + i) (slice_index (written_words word a.from new) i)) (λ i. Stores a.owner a.pointer i (packed_word after i)) 0 (first_word a.from) (words_touched a.from a.count)
+      (λ i lt. let here : 0 + i ≡ i = omega arith in
+      ap (λ k. Stores a.owner a.pointer (first_word a.from + k) (slice_index (written_words word a.from new) k)) here ∙ ap (Stores a.owner a.pointer (first_word a.from + i)) (word_made i lt))
 
 -- ---- a write
 -- a write's stores end where it does

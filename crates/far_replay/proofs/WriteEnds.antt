@@ -7,8 +7,8 @@ use Rattle.far_word.proofs.ByteLaws.{length-bytes_of, packs_back}
 use Rattle.far_replay.specs.Effects.{with_row}
 use Rattle.far_replay.specs.Events.{first_word, words_touched}
 use Rattle.far_replay.specs.Objects.{with_range}
-use Rattle.far_replay.proofs.RangeWrites.{word_same}
 use Rattle.far_core.proofs.Rows.{row_in, row_out, row_is}
+use Rattle.far_core.proofs.Words.{word_same}
 use Rattle.far_replay.proofs.Spliced.{with_range_before, with_range_after}
 
 module _ (word : ℕ → ℕ) (d len from : ℕ) (bytes : List ℕ) (fits : from + length bytes ≤ len) (some : 0 < length bytes)

@@ -47,10 +47,9 @@ pub enum Stepped {
     Halted(Refused),
 }
 
-/// Buffers for the words and bytes of an object, for a line of each log, and for what is told of an object, of all and of a round's step.
+/// Buffers for the bytes of an object, for a line of each log, and for what is told of an object, of all and of a round's step.
 #[derive(Clone, Copy)]
 pub struct Scratch {
-    pub words: [u64; LOG_WORDS as usize],
     pub bytes: [u8; 8 * LOG_WORDS as usize],
     pub lines: [LogLine; MOST_LOGS as usize],
     pub marked: Marked,
@@ -72,7 +71,6 @@ impl Scratch {
             unused: 0,
         };
         Scratch {
-            words: [0; LOG_WORDS as usize],
             bytes: [0; 8 * LOG_WORDS as usize],
             lines: [line; MOST_LOGS as usize],
             marked: Marked {

@@ -192,7 +192,7 @@ fn new_heap(
     ensures range { IfOk result (λ _. is_shape shape ≡ true) }
     ensures refused { IfErr result (λ why. why ≡ cond (is_shape shape) Refused.Memory Refused.Shape) }
 {
-    let core = Core::new(alloc, shape, tells_truth(device))?;
+    let core = Core::without_stored(alloc, shape, tells_truth(device))?;
     let book = Book::new(alloc, Plain { core }, far_side_of(alloc, device))?;
     Ok(Evac::new(book))
 }

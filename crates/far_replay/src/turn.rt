@@ -1,14 +1,11 @@
 //! Commands, each made by calls of the evacuator and events of owners.
 
-ghost use Rattle.std.specs.Prelude.{◌≡◌, ◌≢◌, ◌+◌, ◌*◌, ◌<◌, ◌≤◌, ◌-◌, ◌/◌, ◌^◌, ℕ, true, Some, Ok, take, drop, length, slice_index, slice_range, IfOk, IfErr, IsSome, OnOk};
+ghost use Rattle.std.specs.Prelude.{◌≡◌, ◌+◌, ◌<◌, ◌≤◌, true, Some, length, slice_range, IfOk, IfErr, IsSome};
 ghost use Rattle.far_word.specs.Sizes.{size_of};
-ghost use Rattle.far_word.specs.Bytes.{bytes_of, packed_word, words_of};
 ghost use Rattle.far_word.specs.Pointer.{read_of};
 ghost use Rattle.far_core.specs.state.Law.{Law};
 ghost use Rattle.far_core.specs.state.Room.{room};
-ghost use Rattle.far_core.specs.events.Ranges.{stores};
 ghost use Rattle.far_core.specs.events.Soil.{after_soil};
-ghost use Rattle.far_core.specs.events.Step.{data_len, data_word};
 ghost use Rattle.far_core.specs.declared.event.Event.{Event};
 ghost use Rattle.far_book.specs.book.Fetching.{order_fetched};
 ghost use Rattle.far_text.specs.Command.{as_command, as_request};
@@ -21,7 +18,7 @@ ghost use Rattle.far_reply.specs.Reply.{Data};
 ghost use Rattle.far_replay.specs.Spent.{Makes};
 ghost use Rattle.far_replay.specs.Outcome.{reply_by, IsInScratch};
 ghost use Rattle.far_replay.specs.Between.{Between};
-ghost use Rattle.far_replay.specs.Events.{events_for, first_word, store_events, words_touched, starts_inside, ends_inside};
+ghost use Rattle.far_replay.specs.Events.{events_for, first_word, store_events, words_touched};
 ghost use Rattle.far_replay.specs.Objects.{data_of, lowest_cell, named_len, with_range};
 ghost use Rattle.far_replay.specs.Moment.{KeepsRound, moment_in, state_in};
 ghost use Rattle.far_replay.specs.Turn.{effect, access_causes, first_cause, reply_to, refusal, with_new};
@@ -38,7 +35,7 @@ use far_book::Plain;
 use far_core::Event;
 use far_evac::Evac;
 use far_text::{Command, Inquiry, Request};
-use far_word::{LOG_WORDS, LONGEST, Refused, pack_bytes, pointer_len, unpack_bytes};
+use far_word::{LONGEST, Refused, pointer_len};
 
 /// Some bytes of an object that its owner may reach: the numbers of the owner and the pointer, and the range.
 #[derive(Clone, Copy)]
@@ -89,67 +86,21 @@ fn reach(
     })
 }
 
-// The bytes of the first words, in front of the buffer for them.
-fn unpack_front(words: &[u64], count: usize, bytes: &mut [u8])
-    requires words { count ≤ length words.now }
-    requires bytes { 8 * count ≤ length bytes.old }
-    ensures front { take (8 * count) bytes.new ≡ bytes_of (λ i. slice_index words.now i) (8 * count) }
-{
-    unpack_bytes(&words[..count], &mut bytes[..8 * count]);
-}
-
-// The words of the bytes in front, in front of the buffer for them.
-fn pack_front(bytes: &[u8], count: usize, words: &mut [u64])
-    requires words { count ≤ length words.old }
-    requires bytes { 8 * count ≤ length bytes.now }
-    ensures front { take count words.new ≡ words_of (take (8 * count) bytes.now) }
-{
-    pack_bytes(&bytes[..8 * count], &mut words[..count]);
-}
-
-impl Access {
-    // The first word that the range touches.
-    fn first(self) -> u16
-        ensures { result ≡ first_word self.from }
-    {
-        self.from / 8
-    }
-
-    // How many words the range touches.
-    fn touched(self) -> u16
-        requires { self.from + self.count ≤ LONGEST }
-        ensures { result ≡ words_touched self.from self.count }
-    {
-        (self.from + self.count).div_ceil(8) - self.from / 8
-    }
-}
-
-// Loads the words that a range touches, in front of the buffer of words.
-fn load_front(evac: &Evac<Plain, FarSide>, access: Access, words: &mut [u64])
-    requires viewed { IsViewed (state_in evac.now) access }
-    requires room { length words.old ≡ LOG_WORDS }
-    ensures { (k : ℕ) → k < words_touched access.from access.count → slice_index words.new k ≡ (state_in evac.now).word (data_word (state_in evac.now) access.pointer (first_word access.from + k)) }
-{
-    let count = access.touched() as usize;
-    evac.book().load_all(
-        access.owner,
-        access.pointer,
-        access.first(),
-        &mut words[..count],
-    );
-}
-
 // Reads a range of bytes of an object that is viewed.
 fn read_viewed(evac: &Evac<Plain, FarSide>, scratch: &mut Scratch, access: Access) -> Outcome
     requires viewed { IsViewed (state_in evac.now) access }
     ensures reply { reply_by scratch.new result ≡ Data (slice_range (data_of (state_in evac.now) access.pointer) access.from (access.from + access.count)) }
     ensures fits { IsInScratch result }
 {
-    load_front(evac, access, &mut scratch.words);
-    let count = access.touched() as usize;
-    unpack_front(&scratch.words, count, &mut scratch.bytes);
+    let count = access.count as usize;
+    core_of(evac).load_bytes(
+        access.owner,
+        access.pointer,
+        access.from,
+        &mut scratch.bytes[..count],
+    );
     Outcome::Data {
-        from: access.from - 8 * access.first(),
+        from: 0,
         count: access.count,
     }
 }
@@ -166,69 +117,6 @@ fn read(evac: &mut Evac<Plain, FarSide>, scratch: &mut Scratch, access: Access) 
     }
 }
 
-impl Access {
-    // Whether the range is a part alone of the first word that it touches.
-    fn starts_inside(self) -> bool
-        requires { self.from + self.count ≤ LONGEST }
-        ensures { result ≡ starts_inside self.from self.count }
-    {
-        self.from % 8 != 0 || self.from + self.count < 8 * (self.from / 8) + 8
-    }
-
-    // Whether it touches more words than one, and is a part alone of the last.
-    fn ends_inside(self) -> bool
-        requires { self.from + self.count ≤ LONGEST }
-        ensures { result ≡ ends_inside self.from self.count }
-    {
-        self.touched() > 1 && (self.from + self.count) % 8 != 0
-    }
-}
-
-// Loads the first word that a range touches, if the range is a part of it alone.
-fn load_first(evac: &Evac<Plain, FarSide>, access: Access, words: &mut [u64])
-    requires viewed { IsViewed (state_in evac.now) access }
-    requires room { length words.old ≡ LOG_WORDS }
-    ensures first { starts_inside access.from access.count ≡ true → slice_index words.new 0 ≡ (state_in evac.now).word (data_word (state_in evac.now) access.pointer (access.from / 8)) }
-{
-    if access.starts_inside() {
-        words[0] = core_of(evac).load(access.owner, access.pointer, access.first());
-    }
-}
-
-// Loads the last word that a range touches, if it touches others and is a part of it alone.
-fn load_last(evac: &Evac<Plain, FarSide>, access: Access, words: &mut [u64])
-    requires viewed { IsViewed (state_in evac.now) access }
-    requires room { length words.old ≡ LOG_WORDS }
-    ensures first { slice_index words.new 0 ≡ slice_index words.old 0 }
-    ensures last { ends_inside access.from access.count ≡ true → slice_index words.new ((access.from + access.count) / 8 - access.from / 8) ≡ (state_in evac.now).word (data_word (state_in evac.now) access.pointer ((access.from + access.count) / 8)) }
-{
-    if access.ends_inside() {
-        let last = (access.from + access.count) / 8;
-        words[(last - access.first()) as usize] = core_of(evac).load(
-            access.owner,
-            access.pointer,
-            last,
-        );
-    }
-}
-
-// Puts bytes over a range in the words that it touches, in front of the buffer of words.
-fn splice(evac: &Evac<Plain, FarSide>, scratch: &mut Scratch, access: Access, bytes: &[u8])
-    requires law { Law (state_in evac.now) }
-    requires viewed { IsViewed (state_in evac.now) access }
-    requires bytes { length bytes.now ≡ access.count }
-    ensures words { (k : ℕ) → k < words_touched access.from access.count →
-        slice_index scratch.new.words k ≡ packed_word (with_range (data_of (state_in evac.now) access.pointer) access.from bytes.now) (first_word access.from + k) }
-{
-    let touched = access.touched() as usize;
-    load_first(evac, access, &mut scratch.words);
-    load_last(evac, access, &mut scratch.words);
-    unpack_front(&scratch.words, touched, &mut scratch.bytes);
-    let at = (access.from - 8 * access.first()) as usize;
-    scratch.bytes[at..at + access.count as usize].copy_from_slice(bytes);
-    pack_front(&scratch.bytes, touched, &mut scratch.words);
-}
-
 // Soils an object that is viewed, unless its owner has soiled it since its scope was opened.
 fn soil(evac: &mut Evac<Plain, FarSide>, access: Access)
     requires viewed { IsViewed (state_in evac.old) access }
@@ -242,33 +130,8 @@ fn soil(evac: &mut Evac<Plain, FarSide>, access: Access)
     }
 }
 
-// Stores the words in front over those that a range touches.
-fn store_front(evac: &mut Evac<Plain, FarSide>, access: Access, words: &[u64])
-    requires viewed { IsViewed (state_in evac.old) access }
-    requires soiled { (state_in evac.old).soiled access.pointer ≡ true }
-    requires room { length words.now ≡ LOG_WORDS }
-    requires padding { (k : ℕ) → k < words_touched access.from access.count → slice_index words.now k < 2 ^ (8 * (data_len (state_in evac.old) access.pointer - 8 * (first_word access.from + k))) }
-    ensures state { state_in evac.new ≡ after_events (state_in evac.old) (stores access.owner access.pointer (first_word access.from) (take (words_touched access.from access.count) words.now)) }
-    ensures order { evac.new.book.order ≡ evac.old.book.order }
-    ensures round { KeepsRound evac.old evac.new }
-    ensures device { evac.new.book.device ≡ evac.old.book.device }
-{
-    let count = access.touched() as usize;
-    evac.store_all(
-        access.owner,
-        access.pointer,
-        access.first(),
-        &words[..count],
-    );
-}
-
 // Writes bytes over a range of an object that is viewed, and soiled.
-fn write_viewed(
-    evac: &mut Evac<Plain, FarSide>,
-    scratch: &mut Scratch,
-    access: Access,
-    bytes: &[u8],
-)
+fn write_viewed(evac: &mut Evac<Plain, FarSide>, access: Access, bytes: &[u8])
     requires viewed { IsViewed (state_in evac.old) access }
     requires soiled { (state_in evac.old).soiled access.pointer ≡ true }
     requires law { Law (state_in evac.old) }
@@ -279,8 +142,7 @@ fn write_viewed(
     ensures round { KeepsRound evac.old evac.new }
     ensures device { evac.new.book.device ≡ evac.old.book.device }
 {
-    splice(evac, scratch, access, bytes);
-    store_front(evac, access, &scratch.words);
+    evac.store_bytes(access.owner, access.pointer, access.from, bytes);
 }
 
 // Writes bytes over a range.
@@ -299,7 +161,7 @@ fn write(
     match dereference(evac, access.owner, access.pointer) {
         Ok(()) => {
             soil(evac, access);
-            write_viewed(evac, scratch, access, bytes);
+            write_viewed(evac, access, bytes);
             Outcome::Done
         }
         Err(why) => Outcome::Refused(why),

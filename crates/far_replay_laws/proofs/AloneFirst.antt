@@ -32,7 +32,7 @@ start_nothing honest m = Own-ext (own_of (start honest) m) nothing refl (fun_ext
     (fun_ext (λ p. none_seen (nat_eq (p / CELLS) m)))
 
 pub first_nothing : (logs mutators epoch : ℕ) (honest : Bool) (m : ℕ) → own_of (world_of (first_moment logs mutators epoch honest).core) m ≡ nothing
-first_nothing logs mutators epoch honest m = ap (λ w. own_of w m) (opening_world (shape_of logs mutators epoch) honest) ∙ start_nothing honest m
+first_nothing logs mutators epoch honest m = ap (λ w. own_of w m) (opening_world true (shape_of logs mutators epoch) honest) ∙ start_nothing honest m
 
 -- from the first moment on, the replies to a mutator's lines are what they say by themselves
 pub alone_first : MutatorsAreAlone

@@ -70,7 +70,7 @@ other_rest ws b os rest f = record {
 }
 
 -- ---- the views, past the ends of the core
-module _ (s : State) (honest : Bool) (law : Law s) (past : HasNothingPast s) where
+module _ (s : State) (honest : Bool) (law : Law s) (past : HasNothingPast s) (copiers : s.copying.has_copiers ≡ true) where
   abbrev b : BookView
   b = first_book s honest
 
@@ -164,7 +164,7 @@ module _ (s : State) (honest : Bool) (law : Law s) (past : HasNothingPast s) whe
     round_epoch = sym law.rounds.own_epoch i;
     clear = clear_first i;
     stored = stored_first i;
-    copying = record (uncopied s.copying s.copying.word) { word = jobs_first i; since = since_first i; named = named_first i };
+    copying = record (uncopied s.copying s.copying.word) { has_copiers = sym copiers i; word = jobs_first i; since = since_first i; named = named_first i };
   }
 
   pub first_shows : Shows (book_state b) s'
@@ -205,6 +205,7 @@ module _ (s : State) (honest : Bool) (law : Law s) (past : HasNothingPast s) whe
       clear = clear_first i;
       stored = stored_first i;
       copying = record {
+        has_copiers = sym copiers i;
         word = job_first i;
         since = since_first i;
         named = named_first i;
@@ -285,6 +286,6 @@ module _ (s : State) (honest : Bool) (law : Law s) (past : HasNothingPast s) whe
         }
 
 -- what is asked where a table is made of these words and the book's first view
-pub opens : {S : Type 0} (s : State) (honest : Bool) (ws : List ℕ) → Law s → HasNothingPast s → IsTableOf ws s → ((p : ℕ) → s.cell p ≢ 0 → honest ≡ s.honest) →
+pub opens : {S : Type 0} (s : State) (honest : Bool) (ws : List ℕ) → Law s → HasNothingPast s → s.copying.has_copiers ≡ true → IsTableOf ws s → ((p : ℕ) → s.cell p ≢ 0 → honest ≡ s.honest) →
     Running {S = S} (opening ws [] (Book (first_book s honest)))
-opens s honest ws law past table same = record { book = first_book s honest; others = first_others s honest; dealt = []; views = refl; all = refl; facts = first_facts s honest law past same ws table }
+opens s honest ws law past copiers table same = record { book = first_book s honest; others = first_others s honest; dealt = []; views = refl; all = refl; facts = first_facts s honest law past copiers same ws table }

@@ -78,7 +78,7 @@ module _ (ws : List ℕ) (b : BookView) (os : OtherViews) (f : Facts ws b os) (v
       pub claim_step : CopyStep ws b os v (Claim c j old) (exchange_reply old n) (set ws (job_at j) (either (n == old) (job_word (Taken job c)) n)) (cond (n == old) (claimed_view j job v) (peeked_view j n v))
       claim_step =
           let w : CopierView = claimed_view j job v in
-          let legal : Legal s (Claim c j old) = (is_copier ws b os f v at, low, task_is ∙ idle, (job, offers)) in
+          let legal : Legal s (Claim c j old) = (is_copier ws b os f v at, low, task_is ∙ idle, (job, offers), refl) in
           by_case (CopyStep ws b os v (Claim c j old)) ws (job_at j) n old (job_word (Taken job c)) w (peeked_view j n v) (job_here ws j low)
           (λ won. record {
             legal = legal;

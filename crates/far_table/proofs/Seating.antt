@@ -1,5 +1,5 @@
 -- What the structs of seats keep at the start.
-use Rattle.std.proofs.Common.{◌≡◌, ◌≢◌, ℕ, ◌+◌, ◌*◌, ◌/◌, ◌%◌, ◌<◌, ◌≤◌, Bool, Option, Some, None, List, [], map, length, sym, refl, ap, ◌∙◌, subst, arith}
+use Rattle.std.proofs.Common.{◌≡◌, ◌≢◌, ℕ, ◌+◌, ◌*◌, ◌/◌, ◌%◌, ◌<◌, ◌≤◌, Bool, true, Option, Some, None, List, [], map, length, sym, refl, ap, ◌∙◌, subst, arith}
 use Rattle.std.specs.Prelude.{IfSome, slice_index}
 use mathlib.Core.Option.{some}
 use Rattle.std.specs.List.{range_with_len}
@@ -92,18 +92,18 @@ owner_says s law honest m = record {
 }
 
 -- ---- the rule at the start, once each owner has its seat
-module _ (s : State) (honest : Bool) (law : Law s) (past : HasNothingPast s) (same : (p : ℕ) → s.cell p ≢ 0 → honest ≡ s.honest) where
+module _ (s : State) (honest : Bool) (law : Law s) (past : HasNothingPast s) (copiers : s.copying.has_copiers ≡ true) (same : (p : ℕ) → s.cell p ≢ 0 → honest ≡ s.honest) where
   facts_start : Facts (table s) (waiting s honest s.mutators 0) (first_others s honest)
-  facts_start = other_rest (table s) (first_book s honest) (first_others s honest) [] (first_facts s honest law past same (table s) (is_table s))
+  facts_start = other_rest (table s) (first_book s honest) (first_others s honest) [] (first_facts s honest law past copiers same (table s) (is_table s))
 
   pub rule_starts : Starts s honest (waiting s honest s.mutators 0)
   rule_starts = record {
     words = table s;
     facts = facts_start;
-    state = first_state s honest law past (table s) (is_table s);
-    book = first_book_state s honest law past;
+    state = first_state s honest law past copiers (table s) (is_table s);
+    book = first_book_state s honest law past copiers;
     owners = λ m. owner_says s law honest m;
-    copiers = λ c _. copier_says s honest law past c;
+    copiers = λ c _. copier_says s honest law past copiers c;
   }
 
   pub rule_stands : (b : BookView) → b ≡ waiting s honest s.mutators 0 → ∥ Stands b ∥₁

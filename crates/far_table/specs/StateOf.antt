@@ -1,5 +1,5 @@
 -- The words and all views are a state of the core.
-use Rattle.std.specs.Prelude.{ℕ, ◌/◌, Bool, false, Option, Some, None, List, [], is_some}
+use Rattle.std.specs.Prelude.{ℕ, ◌/◌, Bool, false, true, Option, Some, None, List, [], is_some}
 use Rattle.far_word.specs.declared.pointer.Place.{Place}
 use Rattle.far_word.specs.declared.sizes.TheConstants.{CELLS}
 use Rattle.far_core.specs.declared.event.Kind.TheVariants.{Free}
@@ -62,6 +62,7 @@ cleaned_at b = over b.cleaned (λ _. 0)
 -- the jobs: it knows nothing of what copiers do but by the jobs' words
 abbrev pub jobs_known : BookView → Copying
 jobs_known b = record {
+  has_copiers = true;
   word = over b.jobs (λ _. 0);
   since = over b.since (λ _. 0);
   named = over b.named (λ _. false);

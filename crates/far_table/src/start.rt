@@ -1,5 +1,5 @@
 // The table of a core, with its seats.
-ghost use Rattle.std.specs.Prelude.{◌≡◌, ◌≢◌, ◌+◌, ◌-◌, ◌*◌, ◌<◌, ℕ, Bool, map, IfOk, IfErr, OnOk};
+ghost use Rattle.std.specs.Prelude.{◌≡◌, ◌≢◌, ◌+◌, ◌-◌, ◌*◌, ◌<◌, ℕ, Bool, true, map, IfOk, IfErr, OnOk};
 ghost use Rattle.std.specs.Arc.{arc_value};
 ghost use Rattle.std.specs.List.{range_with_len};
 ghost use Rattle.far_core.specs.state.CoreState.{core_state};
@@ -194,6 +194,7 @@ fn table_of_core<D: Device>(
     alloc: Global,
     plan: &Plan<D>,
 ) -> Result<(Arc<FarTable<D>, Global>, Seat<u64, View>), AllocError>
+    requires copiers { (core_state plan.now.core).copying.has_copiers ≡ true }
     requires honest { (p : ℕ) → (core_state plan.now.core).cell p ≢ 0 → D.honest plan.now.device.value ≡ (core_state plan.now.core).honest }
     ensures dealer { IfOk result (λ r. IsDealer r.1 (arc_value r.0).shared.table_id (core_state plan.now.core).logs) }
     ensures first { IfOk result (λ r. r.1.me.0 ≡ Book (unseated (core_state plan.now.core) (D.honest plan.now.device.value) 0 MOST_COPIERS)) }
@@ -211,6 +212,7 @@ fn seats_of<D: Device>(
     alloc: Global,
     plan: &Plan<D>,
 ) -> Result<(BookSeat<D>, Vec<MutSeat<D>>, Vec<CopySeat<D>>), AllocError>
+    requires copiers { (core_state plan.now.core).copying.has_copiers ≡ true }
     requires honest { (p : ℕ) → (core_state plan.now.core).cell p ≢ 0 → D.honest plan.now.device.value ≡ (core_state plan.now.core).honest }
     ensures book { IfOk result (λ r. book_in r.0 ≡ waiting (core_state plan.now.core) (D.honest plan.now.device.value) (core_state plan.now.core).mutators 0) }
     ensures owners { IfOk result (λ r. r.1.items ≡ Seats (table_of r.0) (first_owner (core_state plan.now.core) (D.honest plan.now.device.value)) (core_state plan.now.core).mutators) }
@@ -227,7 +229,7 @@ fn seats_of<D: Device>(
 
 /// Makes the shared table of a core's words, with the core's views as the seats': scopes that are open, places that are held,
 /// objects that are used, near or far, the round under way, jobs and what copiers have of them (but a job that a copier has taken nobody can finish). The book's seat, the owners' by
-/// number, and the eight copiers' by number. The table is as large as the core's logs ask. All room that a seat ever needs is taken here. The rule is honest where the device
+/// number, and the eight copiers' by number, so copiers may have jobs in the core. The table is as large as the core's logs ask. All room that a seat ever needs is taken here. The rule is honest where the device
 /// is; where some cell is in use that has to be the core's own honesty.
 ///
 /// Refused [`Refused::Memory`] alone; then nothing was made, and the core is dropped.
@@ -236,6 +238,7 @@ pub fn share<D: Device>(
     core: Core,
     device: Snapshot<D>,
 ) -> Result<(BookSeat<D>, Vec<MutSeat<D>>, Vec<CopySeat<D>>), Refused>
+    requires copiers { (core_state core).copying.has_copiers ≡ true }
     requires honest { (p : ℕ) → (core_state core).cell p ≢ 0 → D.honest device.value ≡ (core_state core).honest }
     ensures refused { IfErr result (λ why. why ≡ Refused.Memory) }
     ensures book { IfOk result (λ r. book_in r.0 ≡ waiting (core_state core) (D.honest device.value) (core_state core).mutators 0) }

@@ -1,6 +1,7 @@
 //! Whether the clauses say what was meant, by worked values. All words come from the layout's own table of examples.
 
 mod acts;
+mod bytes;
 mod calls;
 mod copied;
 mod copiers;

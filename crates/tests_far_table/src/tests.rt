@@ -58,7 +58,7 @@ fn all_known(alloc: Global, core: &Core) -> Result<Vec<Known>, AllocError>
 fn seats_of(alloc: Global, core: Core) -> Result<(Vec<MutSeat<MemDevice>>, Vec<Known>), Refused>
     ensures { IfOk result (λ r. Ready r.0.items r.1.items) }
 {
-    if !core.is_honest() {
+    if !core.is_honest() || !core.has_copiers() {
         return Err(Refused::Range);
     }
     core.keeps_law();

@@ -54,7 +54,7 @@ pub fn shared(alloc: Global, shape: Shape) -> Result<Shared, Refused>
     ensures alone { IfOk result (λ made. HasNoJob (seat_view made.0.near)) }
 {
     let device = MemDevice::new(alloc);
-    let core = Core::new(alloc, shape, true)?;
+    let core = Core::without_stored(alloc, shape, true)?;
     let (seat, seats, _copiers) = share(alloc, core, Snapshot::of(&device))?;
     let Ok(owners) = owners_of(alloc, seats) else {
         return Err(Refused::Memory);

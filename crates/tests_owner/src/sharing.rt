@@ -104,12 +104,14 @@ fn is_at_rest(core: &Core) -> bool
     ensures closed { result ≡ true → (core_state core.now).scope 0 ≡ 0 }
     ensures forgot { result ≡ true → (core_state core.now).remembered 0 ≡ None }
     ensures idle { result ≡ true → (c : ℕ) → (core_state core.now).copying.task c ≡ None }
+    ensures copiers { result ≡ true → (core_state core.now).copying.has_copiers ≡ true }
 {
     core.is_honest()
         && core.mutators() == 1
         && core.scope(0) == 0
         && core.remembered(0).is_none()
         && are_idle(core)
+        && core.has_copiers()
 }
 
 /// Shares a core of an honest far side with one owner, whose scope is closed and who remembers no epoch, and of which no copier has a

@@ -49,9 +49,9 @@ some_noted None f = refl
 some_noted (Some job) f = refl
 
 -- ---- none is offered
-pub no_jobs : (epoch : ℕ) (round : ℕ → Bool) (jobs : Jobs) → length jobs.noted ≡ JOBS → ((j : ℕ) → noted_at jobs j ≡ None) → ((j : ℕ) → j < 64 → has jobs.waiting j ≡ false) →
-    NotesJobs epoch round (unread no_copying) jobs
-no_jobs epoch round jobs sized noted waiting =
+pub no_jobs : (copiers : Bool) (epoch : ℕ) (round : ℕ → Bool) (jobs : Jobs) → length jobs.noted ≡ JOBS → ((j : ℕ) → noted_at jobs j ≡ None) → ((j : ℕ) → j < 64 → has jobs.waiting j ≡ false) →
+    NotesJobs epoch round (unread record no_copying { has_copiers = copiers }) jobs
+no_jobs copiers epoch round jobs sized noted waiting =
     let empty = (λ (j : ℕ). same_jobs no_copying j ∙ ap job_said unworded) in
     record {
       sized = sized;

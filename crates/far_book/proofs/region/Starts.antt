@@ -11,7 +11,7 @@ use Rattle.far_core.specs.declared.event.Kind.TheVariants.{Free, Open}
 use Rattle.far_core.specs.declared.shape.Shape.{Shape}
 use Rattle.far_core.specs.events.Mark.{is_sealed}
 use Rattle.far_core.specs.laws.Observed.{live_bytes}
-use Rattle.far_core.specs.state.Opening.{opening}
+use Rattle.far_core.specs.state.Opening.{for_copiers, opening}
 use Rattle.far_core.specs.state.Room.{is_free}
 use Rattle.far_core.specs.state.Shape.{is_shape}
 use Rattle.far_core.specs.state.Spans.{spans_of}
@@ -55,8 +55,8 @@ and_true : (b : Bool) → (b && true) ≡ b
 and_true true = refl
 and_true false = refl
 
-module _ (shape : Shape) (fits : is_shape shape ≡ true) (ledger : Ledger) (made : Made shape ledger) where
-  no_live : (l : ℕ) → live_bytes (own_part (opening shape false)) l ≡ 0
+module _ (has_copiers : Bool) (shape : Shape) (fits : is_shape shape ≡ true) (ledger : Ledger) (made : Made shape ledger) where
+  no_live : (l : ℕ) → live_bytes (own_part (for_copiers has_copiers (opening shape false))) l ≡ 0
   unfolding spans_of spans_in
   no_live l = refl
 
@@ -69,9 +69,9 @@ module _ (shape : Shape) (fits : is_shape shape ≡ true) (ledger : Ledger) (mad
   sealed_at : (l : ℕ) → false ≡ is_sealed ((opening shape false).kind l)
   sealed_at l = put_both (λ k. false ≡ is_sealed k) (λ _. Free) 0 Open l (λ _. refl) (λ _. refl)
 
-  pub starts : Notes (own_part (opening shape false)) ledger
+  pub starts : Notes (own_part (for_copiers has_copiers (opening shape false))) ledger
   starts = record {
-    law = own_law (opening shape false) (begins shape false fits);
+    law = own_law (for_copiers has_copiers (opening shape false)) (begins has_copiers shape false fits);
     current = made.current;
     free = λ l few. made.free l few ∙ free_at l;
     logs = made.logs;
@@ -79,7 +79,7 @@ module _ (shape : Shape) (fits : is_shape shape ≡ true) (ledger : Ledger) (mad
     lives = λ l lt. ap (λ (f : Filled). f.live) (row_of ledger.filled.items shape.logs record { tail = 0; live = 0 } made.filled l) ∙ sym (no_live l);
     sealed = λ l. ap (list_any (eqb l)) made.order ∙ sealed_at l;
     once = subst (IsDistinct eqb) (sym made.order) none_distinct;
-    jobs = no_jobs shape.epoch (λ _. false) ledger.jobs made.jobs_sized made.jobs_noted made.jobs_waiting;
+    jobs = no_jobs has_copiers shape.epoch (λ _. false) ledger.jobs made.jobs_sized made.jobs_noted made.jobs_waiting;
     cells = made.cells;
     cell = λ p lt. ap (λ (set : NumberSet). has set (p % 64))
         (ap (λ sets. slice_index_or sets (p / 64) record { word = 0 }) made.sets ∙ get_or-replicate (SETS * shape.mutators) (p / 64) made.all record { word = 0 } (omega arith)) ∙ made.every (p % 64) (omega arith);

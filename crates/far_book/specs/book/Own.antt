@@ -3,7 +3,7 @@ use Rattle.std.specs.Prelude.{◌≡◌, ℕ, false, cond, Option, Some, None}
 use Rattle.far_word.specs.declared.job.JobWord.{JobWord}
 use Rattle.far_word.specs.declared.job.JobWord.TheVariants.{Empty, Offered, Taken, Finished}
 use Rattle.far_word.specs.Job.{job_of, job_word}
-use Rattle.far_core.specs.state.Opening.{opening}
+use Rattle.far_core.specs.state.Opening.{for_copiers, opening}
 use Rattle.far_core.specs.state.State.{Copying, State}
 use Rattle.far_hand.specs.Beside.{hidden, uncopied}
 use Rattle.far_hand.specs.ShapeOf.{shape_of}
@@ -33,6 +33,6 @@ HasNoJob s = (j : ℕ) → s.copying.word j ≡ 0
 abbrev pub own_part : State → State
 own_part s = record (hidden s s.cell (λ a. cond (s.starts a) (s.word a) 0) (λ j. untaken (s.copying.word j))) { honest = false }
 
--- all cells are free and the logs are as at the start, whatever owners have done with their scopes
+-- all cells are free and the logs are as at the start, whatever owners have done with their scopes, and whether copiers may have jobs or not
 abbrev pub IsAtStart : State → Type 0
-IsAtStart s = own_part s ≡ own_part (opening (shape_of s) s.honest)
+IsAtStart s = own_part s ≡ own_part (for_copiers s.copying.has_copiers (opening (shape_of s) s.honest))

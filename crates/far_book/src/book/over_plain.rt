@@ -5,7 +5,8 @@ ghost use Rattle.far_word.specs.declared.sizes.TheConstants.{CELLS};
 ghost use Rattle.far_word.specs.Sizes.{words_for};
 ghost use Rattle.far_core.specs.events.Legal.{Legal};
 ghost use Rattle.far_core.specs.events.Ranges.{AllLegal, after_events, stores};
-ghost use Rattle.far_core.specs.events.Step.{after, answer, data_len, step_of};
+ghost use Rattle.far_core.specs.events.Step.{after, answer, data_len, data_word, step_of};
+ghost use Rattle.far_core.specs.events.Written.{written_words};
 ghost use Rattle.far_core.specs.state.Agrees.{Agrees};
 ghost use Rattle.far_core.specs.state.CoreState.{core_state};
 ghost use Rattle.far_core.specs.state.Law.{Law};
@@ -109,5 +110,19 @@ impl<D: Device + Drop> Book<Plain, D> {
         ensures device { self.new.device ≡ self.old.device }
     {
         self.near.core.store_all(owner, pointer, first, words);
+    }
+    /// Bytes of an object that its owner holds and has soiled, from its byte `from` on, become `bytes`, which end where the object
+    /// does or before: a store of each word that has one.
+    #[inline]
+    pub fn store_bytes(&mut self, owner: u8, pointer: u16, from: u16, bytes: &[u8])
+        requires own { pointer / CELLS ≡ owner }
+        requires soiled { (core_state self.old.near.core).soiled pointer ≡ true }
+        requires inside { from + length bytes.now ≤ data_len (core_state self.old.near.core) pointer }
+        ensures state { core_state self.new.near.core ≡ after_events (core_state self.old.near.core) (stores owner pointer (from / 8) (written_words (λ i. (core_state self.old.near.core).word (data_word (core_state self.old.near.core) pointer i)) from bytes.now)) }
+        ensures legal { AllLegal (core_state self.old.near.core) (stores owner pointer (from / 8) (written_words (λ i. (core_state self.old.near.core).word (data_word (core_state self.old.near.core) pointer i)) from bytes.now)) }
+        ensures order { self.new.order ≡ self.old.order }
+        ensures device { self.new.device ≡ self.old.device }
+    {
+        self.near.core.store_bytes(owner, pointer, from, bytes);
     }
 }

@@ -205,7 +205,7 @@ module _ (logs : ℕ) where
       soiled = λ q a b. refl;
       book = λ ne. absurd (ne refl);
       copiers = λ c ne. same_copier;
-      rest = (refl, refl, refl);
+      rest = (refl, refl, refl, refl);
     };
     part = λ s h. inr (inr (inr (inl (logs, refl))));
     word = λ s h. (logs, refl);

@@ -138,7 +138,7 @@ module _ (s : State) (law : Law s) (c j : ℕ) (job : Job) (few : c < MOST_COPIE
 module _ (s : State) (c j : ℕ) where
   touch_claim : (o : Option Job) → Touches s (record { word = Some (JobAt j); part = CopierAt c }) (after_claim s c j o)
   touch_claim None = untouched s _
-  touch_claim (Some job) = copier_touched c (one_job s.epoch s.scope s.cell s.word s.copying.word j _) refl refl
+  touch_claim (Some job) = copier_touched c (one_job s.epoch s.scope s.cell s.word s.copying.word j _) refl refl refl
       (λ d ne. record { task = put_other s.copying.task c _ d ne; length = put_other s.copying.length c _ d ne; read = put_other s.copying.read c _ d ne; written = put_other s.copying.written c _ d ne })
 
 stays : (s : State) (c j : ℕ) (o : Option Job) → world_of (after_claim s c j o) ≡ world_of s
@@ -158,15 +158,16 @@ module _ (c j old : ℕ) where
   pub claim_owed : Owed (Claim c j old)
   claim_owed = record {
     fact = λ s law h.
-        let x = parts (nat_lt c MOST_COPIERS && nat_lt j JOBS && not (is_some (s.copying.task c))) (is_some (offered_in (job_of old))) h in
+        let v = parts (nat_lt c MOST_COPIERS && nat_lt j JOBS && not (is_some (s.copying.task c)) && is_some (offered_in (job_of old))) s.copying.has_copiers h in
+        let x = parts (nat_lt c MOST_COPIERS && nat_lt j JOBS && not (is_some (s.copying.task c))) (is_some (offered_in (job_of old))) v.0 in
         let y = parts (nat_lt c MOST_COPIERS && nat_lt j JOBS) (not (is_some (s.copying.task c))) x.0 in
         let z = parts (nat_lt c MOST_COPIERS) (nat_lt j JOBS) y.0 in
-        (grind (arith, nat_tests), grind (arith, nat_tests), no_task (s.copying.task c) y.1, offered_fact old (job_of old) refl x.1);
+        (grind (arith, nat_tests), grind (arith, nat_tests), no_task (s.copying.task c) y.1, offered_fact old (job_of old) refl x.1, v.1);
     test = λ s h.
         let few : c < MOST_COPIERS = h.0 in let low : j < JOBS = h.1 in
         let a : nat_lt c MOST_COPIERS ≡ true = grind (arith, nat_tests) in
         let b : nat_lt j JOBS ≡ true = grind (arith, nat_tests) in
-        rw (a, b, h.2, h.3.1) refl;
+        rw (a, b, h.2, h.3.1, h.4) refl;
     keeps = λ s law fits h. cond_both (nat_eq (s.copying.word j) old) (after_claim s c j (offered_in (job_of old))) s Law (λ e. keeps_claim s law h (eqb-true (s.copying.word j) old e)) (λ _. law);
     does = λ s law fits h. at (nat_eq (s.copying.word j) old) s;
     within = λ s. cond_both (nat_eq (s.copying.word j) old) (after_claim s c j (offered_in (job_of old))) s (Touches s (touches s (Claim c j old))) (λ _. touch_claim s c j (offered_in (job_of old))) (λ _. untouched s _);

@@ -155,7 +155,7 @@ module _ (p : ℕ) where
       soiled = λ q a b. refl;
       book = λ ne. absurd (ne refl);
       copiers = λ c ne. same_copier;
-      rest = (refl, refl, refl);
+      rest = (refl, refl, refl, refl);
     };
     part = λ s h. inr (inr (inl (p, refl)));
     word = λ s h. inr (inr (inr (inr (inl refl))));

@@ -90,7 +90,7 @@ module _ (j old : ℕ) where
     soiled = λ p a b. refl;
     book = λ ne. (refl, refl, refl, refl, refl, refl, refl, refl, refl, refl);
     copiers = λ d ne. record { task = refl; length = refl; read = refl; written = refl };
-    rest = (refl, refl, refl);
+    rest = (refl, refl, refl, refl);
   }
 
   pub collect_owed : Owed (Collect j old)

@@ -100,7 +100,7 @@ module _ (s : State) (law : Law s) (c : ℕ) (t : Task) (has : HasTask s c t) (a
 module _ (s : State) (c : ℕ) where
   touch_finish : (o : Option Task) → Touches s (record { word = job_spot o; part = CopierAt c }) (after_finish s c o)
   touch_finish None = untouched s _
-  touch_finish (Some t) = copier_touched c (one_job s.epoch s.scope s.cell s.word s.copying.word t.number _) refl refl
+  touch_finish (Some t) = copier_touched c (one_job s.epoch s.scope s.cell s.word s.copying.word t.number _) refl refl refl
       (λ d ne. record { task = put_other s.copying.task c None d ne; length = refl; read = refl; written = refl })
 
   finish_word : (o : Option Task) → WordBy s (Finish c) (job_spot o)

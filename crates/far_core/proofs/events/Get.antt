@@ -268,7 +268,7 @@ module _ (l at : ℕ) where
 
   touch_get : (free : Bool) (s : State) → Touches s (touches s (Get l at free)) (after s (Get l at free))
   touch_get false s = untouched s _
-  touch_get true s = record { words = λ a ne. refl; remembered = λ k a b. refl; used = λ q a. refl; held = λ q a b. refl; soiled = λ q a b. refl; book = λ ne. absurd (ne refl); copiers = λ c ne. same_copier; rest = (refl, refl, refl) }
+  touch_get true s = record { words = λ a ne. refl; remembered = λ k a b. refl; used = λ q a. refl; held = λ q a b. refl; soiled = λ q a b. refl; book = λ ne. absurd (ne refl); copiers = λ c ne. same_copier; rest = (refl, refl, refl, refl) }
 
   part_get : (free : Bool) → PartBy (Get l at free) (part_of free)
   part_get false = tt

@@ -102,7 +102,7 @@ module _ (m : ℕ) where
       soiled = λ q a b. refl;
       book = λ ne. absurd (ne refl);
       copiers = λ c ne. same_copier;
-      rest = (refl, refl, refl);
+      rest = (refl, refl, refl, refl);
     };
     part = λ s h. inr (inr (inr (inr (inl (m, refl)))));
     word = λ s h. tt;

@@ -276,7 +276,7 @@ module _ (s : State) (j p : ℕ) (to : Place) where
     soiled = λ q a b. refl;
     book = λ ne. absurd (ne refl);
     copiers = λ c ne. record { task = refl; length = refl; read = refl; written = refl };
-    rest = (refl, refl, refl);
+    rest = (refl, refl, refl, refl);
   }
   touch_offer (Some (Far len ds m)) = untouched s _
 

@@ -66,7 +66,7 @@ module _ (c i : ℕ) where
     test = λ s h. let low : i < job_words s.word h.0.job = h.2 in rw h.1 (grind (arith, nat_tests));
     keeps = λ s law fits h. rw h.1 (keeps_read s law c i h.0 h.1 h.2);
     does = λ s law fits h. copying_stays s _;
-    within = λ s. copier_touched c (λ a ne. refl) refl refl (λ d ne. record { task = refl; length = refl; read = put_other s.copying.read c _ d ne; written = refl });
+    within = λ s. copier_touched c (λ a ne. refl) refl refl refl (λ d ne. record { task = refl; length = refl; read = put_other s.copying.read c _ d ne; written = refl });
     part = λ s h. inr (inr (inl (i, refl)));
     word = λ s h. tt;
     reports = λ s law h. (refl, ap (λ (f : ℕ → Option ℕ). f i) (put_same s.copying.read c _ c refl) ∙ put_same (s.copying.read c) i _ i refl);

@@ -48,7 +48,7 @@ module _ (c : ℕ) where
     test = λ s h. rw h.1 refl;
     keeps = λ s law fits h. rw h.1 (keeps_length s law c h.0 h.1);
     does = λ s law fits h. copying_stays s _;
-    within = λ s. copier_touched c (λ a ne. refl) refl refl (λ d ne. record { task = refl; length = put_other s.copying.length c _ d ne; read = refl; written = refl });
+    within = λ s. copier_touched c (λ a ne. refl) refl refl refl (λ d ne. record { task = refl; length = put_other s.copying.length c _ d ne; read = refl; written = refl });
     part = λ s h. inr (inl refl);
     word = λ s h. tt;
     reports = λ s law h. (refl, put_same s.copying.length c _ c refl);

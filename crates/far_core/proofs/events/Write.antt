@@ -171,7 +171,7 @@ module _ (c i : ℕ) where
     test = λ s h. rw (h.2, h.3) refl;
     keeps = λ s law fits h. rw (h.2, h.3) (keeps_write s law c i h.1 h.0 h.2 h.3);
     does = λ s law fits h. rw (h.2, h.3) (write_stays s law c i h.1 h.0 h.2 h.3);
-    within = λ s. copier_touched c (one_word s.epoch s.scope s.cell s.word s.copying.word _ _) refl refl (λ d ne. record { task = refl; length = refl; read = refl; written = put_other s.copying.written c _ d ne });
+    within = λ s. copier_touched c (one_word s.epoch s.scope s.cell s.word s.copying.word _ _) refl refl refl (λ d ne. record { task = refl; length = refl; read = refl; written = put_other s.copying.written c _ d ne });
     part = λ s h. inr (inr (inr (inl (i, refl))));
     word = λ s h. inr (inr (c, i, refl, refl));
     reports = λ s law h. (rw h.3 (ap Some (sym (put_same s.word _ _ _ refl))), ap (λ (f : ℕ → Bool). f i) (put_same s.copying.written c _ c refl) ∙ put_same (s.copying.written c) i true i refl);

@@ -1,5 +1,5 @@
--- A copier takes an offered job, if its word is still the one awaited.
-use Rattle.std.specs.Prelude.{◌≡◌, ◌≢◌, ◌<◌, ◌^◌, ◌==◌, ◌&&◌, if◌then◌else◌, ℕ, false, not, is_some, nat_lt, Option, Some, None}
+-- A copier takes an offered job, where copiers may have jobs, if its word is still the one awaited.
+use Rattle.std.specs.Prelude.{◌≡◌, ◌≢◌, ◌<◌, ◌^◌, ◌==◌, ◌&&◌, if◌then◌else◌, ℕ, false, true, not, is_some, nat_lt, Option, Some, None}
 use Rattle.far_word.specs.declared.job.Job.{Job}
 use Rattle.far_word.specs.declared.job.JobWord.{JobWord}
 use Rattle.far_word.specs.declared.job.JobWord.TheVariants.{Empty, Offered, Taken, Finished}
@@ -53,10 +53,10 @@ IsOffer old = (job : Job) × (job_of old ≡ Some (Offered job))
 
 abbrev pub claim_rule : State → ℕ → ℕ → ℕ → Rule
 claim_rule s c j old = record {
-  test = nat_lt c MOST_COPIERS && nat_lt j JOBS && not (is_some (s.copying.task c)) && is_some (offered_in (job_of old));
+  test = nat_lt c MOST_COPIERS && nat_lt j JOBS && not (is_some (s.copying.task c)) && is_some (offered_in (job_of old)) && s.copying.has_copiers;
   after = if s.copying.word j == old then after_claim s c j (offered_in (job_of old)) else s;
   answer = if s.copying.word j == old then Done else Word (s.copying.word j);
-  Legal = (c < MOST_COPIERS) × (j < JOBS) × (s.copying.task c ≡ None) × IsOffer old;
+  Legal = (c < MOST_COPIERS) × (j < JOBS) × (s.copying.task c ≡ None) × IsOffer old × (s.copying.has_copiers ≡ true);
   Reports = ClaimReports s c j old;
   touches = record { word = Some (JobAt j); part = CopierAt c };
 }

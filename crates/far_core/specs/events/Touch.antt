@@ -55,4 +55,4 @@ pub record Touches (s : State) (x : Touch) (t : State) : Type 0 where
   pub book : x.part ≢ BookView → (t.kind ≡ s.kind) × (t.tail ≡ s.tail) × (t.current ≡ s.current) × (t.starts ≡ s.starts) × (t.round ≡ s.round) × (t.round_epoch ≡ s.round_epoch) × (t.clear ≡ s.clear) × (t.stored ≡ s.stored)
       × (t.copying.since ≡ s.copying.since) × (t.copying.named ≡ s.copying.named)
   pub copiers : (c : ℕ) → x.part ≢ CopierAt c → SameCopier c s.copying t.copying
-  pub rest : (t.mutators ≡ s.mutators) × (t.logs ≡ s.logs) × (t.honest ≡ s.honest)
+  pub rest : (t.mutators ≡ s.mutators) × (t.logs ≡ s.logs) × (t.honest ≡ s.honest) × (t.copying.has_copiers ≡ s.copying.has_copiers)

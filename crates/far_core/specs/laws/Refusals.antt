@@ -111,14 +111,15 @@ pub record RoundsAreRefused (s : State) : Type 0 where
   pub advance_unmarked : (logs p len ds : ℕ) (place : Place) (k : Marks) → read_of (s.cell p) ≡ Some (Near len ds place k) → logs / 2 ^ place.log % 2 ≡ 1 → k.evac ≡ false →
       IsRefused s (event.Advance logs)
 
--- about copying: past the last copier or job; to take a job beside another, or one that isn't offered (whose stage isn't 1); without a job; to read a word that begins at the
--- object's end or past it, to write one that wasn't read, to finish before each is written; to empty a job that is empty or taken (stages 0 and 2); to take or empty one by a
--- word that is off the layout
+-- about copying: past the last copier or job; to take a job beside another, one that isn't offered (whose stage isn't 1), or any where no copier may have one; without
+-- a job; to read a word that begins at the object's end or past it, to write one that wasn't read, to finish before each is written; to empty a job that is empty or taken
+-- (stages 0 and 2); to take or empty one by a word that is off the layout
 pub record CopyingIsRefused (s : State) : Type 0 where
   pub claim_past : (c j old : ℕ) → JOBS ≤ j → IsRefused s (event.Claim c j old)
   pub claim_none : (c j old : ℕ) → MOST_COPIERS ≤ c → IsRefused s (event.Claim c j old)
   pub claim_again : (c j old : ℕ) (t : Task) → s.copying.task c ≡ Some t → IsRefused s (event.Claim c j old)
   pub claim_unoffered : (c j old : ℕ) → old / 2 ^ 62 ≢ 1 → IsRefused s (event.Claim c j old)
+  pub claim_alone : (c j old : ℕ) → s.copying.has_copiers ≡ false → IsRefused s (event.Claim c j old)
   pub claim_off_layout : (c j old : ℕ) → job_of old ≡ None → IsRefused s (event.Claim c j old)
   pub length_idle : (c : ℕ) → s.copying.task c ≡ None → IsRefused s (event.ReadLength c)
   pub read_idle : (c i : ℕ) → s.copying.task c ≡ None → IsRefused s (event.Read c i)

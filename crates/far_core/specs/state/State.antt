@@ -7,6 +7,8 @@ use Rattle.far_core.specs.declared.event.Task.{Task}
 
 -- What is copied outside the lock: 16 jobs, at most 8 copiers
 pub record Copying : Type 0 where
+  -- whether copiers may have jobs, for good
+  pub has_copiers : Bool
   -- the shared words of the jobs
   pub word : ℕ → ℕ
   -- the book's view of a job: the epoch of the round in which it was offered, and whether its pointer was named to its target

@@ -1,6 +1,6 @@
 //! Events made: one by one, each by a call of its own or as data, and lists of them.
 
-ghost use Rattle.std.specs.Prelude.{◌≡◌, ◌↔◌, ◌-◌, ◌*◌, ◌/◌, ◌^◌, ◌<◌, false, true, List, map, IsTrue, IsSome, IfOk, IfErr, IfSome, IfNone};
+ghost use Rattle.std.specs.Prelude.{◌≡◌, ◌≢◌, ◌↔◌, ◌-◌, ◌*◌, ◌/◌, ◌^◌, ◌<◌, false, true, List, map, IsTrue, IsSome, IfOk, IfErr, IfSome, IfNone, Option, is_some};
 ghost use Rattle.far_word.specs.declared.sizes.TheConstants.{CELLS};
 ghost use Rattle.far_word.specs.Sizes.{words_for};
 ghost use Rattle.far_core.specs.events.Legal.{Legal};
@@ -8,9 +8,12 @@ ghost use Rattle.far_core.specs.events.Next.{next_state};
 ghost use Rattle.far_core.specs.events.Step.{step_of, is_legal, after, answer, data_len, Fits};
 ghost use Rattle.far_core.specs.state.Agrees.{Agrees};
 ghost use Rattle.far_core.specs.state.CoreState.{core_state};
+ghost use Rattle.far_core.specs.state.Kept.{can_tell, is_naming, keeps_stored, tells, tells_all};
 ghost use Rattle.far_core.specs.state.Law.{Law};
 ghost use Rattle.far_core.specs.state.Memory.{state_of};
 ghost use Rattle.far_core.specs.state.State.{State};
+ghost use Rattle.far_core.specs.state.Stored.{RowsAre};
+ghost use Rattle.far_core.specs.state.StoredRows.{stored_in};
 ghost use Rattle.far_core.specs.world.Happens.{Happens};
 ghost use Rattle.far_core.specs.world.Runs.{Leads, Passes, Runs};
 ghost use Rattle.far_core.specs.world.WorldOf.{world_of};
@@ -18,6 +21,7 @@ ghost use Rattle.far_core.specs.world.WorldOf.{world_of};
 use crate::event::{Event, Reply};
 use crate::machine::Core;
 use crate::memory::Memory;
+use crate::memory::stored_rows::StoredRows;
 use far_word::{JOBS, MOST_COPIERS, Mark, Place, Refused};
 use std::alloc::Global;
 
@@ -94,8 +98,7 @@ impl Core {
         self.memory.soil(owner, pointer)
     }
 
-    /// An open owner closes its scope, and holds, has soiled and remembers nothing from then on. This writes two flags of all
-    /// its 256 cells, whatever it holds.
+    /// An open owner closes its scope, and holds, has soiled and remembers nothing from then on.
     #[inline]
     pub fn close(&mut self, owner: u8)
         requires legal { Legal (core_state self.old) (Event.Close owner) }
@@ -234,7 +237,7 @@ impl Core {
     }
 
     /// A copier without a job takes an offered one, where its word is `old`; else `Err` with the word that was found, and nothing
-    /// has changed.
+    /// has changed. Only in a core where copiers may have jobs: [`Core::has_copiers`].
     #[inline]
     pub fn claim(&mut self, copier: u8, job: u8, old: u64) -> Result<(), u64>
         requires legal { Legal (core_state self.old) (Event.Claim copier job old) }
@@ -308,12 +311,21 @@ impl Core {
 
 /// Guards of the book's, which look at more than a caller can know by one word.
 impl Core {
-    /// Whether a naming is legal: both words are on the layout and make a form that may be made of the pointer now.
+    /// Whether this core keeps the words that are stored. By them it tells of any naming whether it is legal.
+    #[inline]
+    pub fn keeps_stored(&self) -> bool
+        ensures { result ≡ keeps_stored self.now }
+    {
+        self.memory.rows.is_some()
+    }
+
+    /// Whether stored words are kept and a naming is legal: both words are on the layout and make a form that may be made of the
+    /// pointer now.
     #[inline]
     pub fn may_name(&self, pointer: u16, old: u64, new: u64) -> bool
-        ensures { IsTrue result ↔ Legal (core_state self.now) (Event.Name pointer old new) }
+        ensures { IsTrue result ↔ ((keeps_stored self.now ≡ true) × Legal (core_state self.now) (Event.Name pointer old new)) }
     {
-        self.memory.may_name(pointer, old, new)
+        self.keeps_stored() && self.memory.may_name(pointer, old, new)
     }
 
     /// Whether word `at` of a log may be read, and with `free` the log given back. With `free` this looks at the log's
@@ -345,25 +357,84 @@ impl Core {
 
 #[tactic(auto, using(crate::proofs::Calls::next_is_after))]
 impl Memory {
-    /// Makes an event, if it is legal.
+    /// Makes an event, if it can be told whether it is legal, and it is.
     #[inline(always)]
     fn apply(&mut self, event: Event) -> Reply
         requires { Law (state_of self.old) }
-        ensures step { (state_of self.new, result) ≡ step_of (state_of self.old) event }
-        ensures fits { Fits event }
+        ensures step { can_tell self.old event ≡ true → (state_of self.new, result) ≡ step_of (state_of self.old) event }
+        ensures fits { can_tell self.old event ≡ true → Fits event }
+        ensures untold { can_tell self.old event ≡ false → (state_of self.new ≡ state_of self.old) × (result ≡ Reply.Refused) }
     {
-        if self.allows(event) {
+        if self.can_tell(event) && self.allows(event) {
             self.make(event)
         } else {
             Reply::Refused
         }
     }
 
+    /// The same, and stored words stay kept, if they are.
+    fn apply_kept(&mut self, event: Event) -> Reply
+        requires { Law (state_of self.old) }
+        ensures step { can_tell self.old event ≡ true → (state_of self.new, result) ≡ step_of (state_of self.old) event }
+        ensures fits { can_tell self.old event ≡ true → Fits event }
+        ensures untold { can_tell self.old event ≡ false → (state_of self.new ≡ state_of self.old) × (result ≡ Reply.Refused) }
+        ensures kept { is_some self.new.rows ≡ is_some self.old.rows }
+    {
+        if !self.can_tell(event) || !self.allows(event) {
+            return Reply::Refused;
+        }
+        let rows = self.take_rows();
+        let rows = self.rows_after(rows, event);
+        let reply = self.make(event);
+        self.put_rows(rows);
+        reply
+    }
+
+    /// Whether this memory can tell of an event whether it is legal.
+    #[inline(always)]
+    fn can_tell(&self, event: Event) -> bool
+        ensures { result ≡ can_tell self.now event }
+    {
+        self.rows.is_some() || !is_naming(event)
+    }
+
+    /// What rows of stored words are after a legal event.
+    fn rows_after(&self, rows: Option<StoredRows>, event: Event) -> Option<StoredRows>
+        requires law { Law (state_of self.now) }
+        requires legal { is_legal (state_of self.now) event ≡ true }
+        requires rows { IfSome rows (λ rows. RowsAre (CELLS * (state_of self.now).mutators) (state_of self.now).stored rows) }
+        ensures kept { is_some result ≡ is_some rows }
+        ensures rows { IfSome result (λ rows. RowsAre (CELLS * (state_of self.now).mutators) (next_state (state_of self.now) event).stored rows) }
+    {
+        let Some(mut rows) = rows else {
+            return None;
+        };
+        if is_naming(event) {
+            self.rows_named(&mut rows, event);
+        }
+        Some(rows)
+    }
+
+    /// What rows of stored words are after a legal naming.
+    fn rows_named(&self, rows: &mut StoredRows, event: Event)
+        requires law { Law (state_of self.now) }
+        requires legal { is_legal (state_of self.now) event ≡ true }
+        requires naming { is_naming event ≡ true }
+        requires rows { RowsAre (CELLS * (state_of self.now).mutators) (state_of self.now).stored rows.old }
+        ensures { RowsAre (CELLS * (state_of self.now).mutators) (next_state (state_of self.now) event).stored rows.new }
+    {
+        let Event::Name { pointer, old, new } = event else {
+            unreachable!()
+        };
+        self.store_leaving(rows, pointer, old, new);
+    }
+
     /// Whether an event is legal. A row an event: its test.
     #[inline(always)]
     #[rattlefmt::skip]
     fn allows(&self, event: Event) -> bool
-        requires { Law (state_of self.now) }
+        requires law { Law (state_of self.now) }
+        requires told { can_tell self.now event ≡ true }
         ensures legal { result ≡ is_legal (state_of self.now) event }
         ensures fits { Fits event }
     {
@@ -437,6 +508,14 @@ impl Memory {
     }
 }
 
+/// Whether an event names.
+#[inline(always)]
+fn is_naming(event: Event) -> bool
+    ensures { result ≡ is_naming event }
+{
+    matches!(event, Event::Name { .. })
+}
+
 /// What an exchange answers: that it is done, or the word that was found.
 fn done_or_word(exchanged: Result<(), u64>) -> Reply
     ensures done { IfOk exchanged (λ _. result ≡ Reply.Done) }
@@ -450,12 +529,15 @@ fn done_or_word(exchanged: Result<(), u64>) -> Reply
 
 impl Core {
     /// Makes one event. One that isn't legal is answered [`Reply::Refused`] and changes nothing at all. Takes no memory.
+    ///
+    /// Where no stored words are kept, each [`Event::Name`] is answered so: [`Core::name`] makes it.
     #[inline(always)]
     pub fn step(&mut self, event: Event) -> Reply
-        ensures step { (core_state self.new, result) ≡ step_of (core_state self.old) event }
-        ensures legal { Legal (core_state self.old) event → (core_state self.new ≡ after (core_state self.old) event) × (result ≡ answer (core_state self.old) event) }
-        ensures refused { ¬ (Legal (core_state self.old) event) → (core_state self.new ≡ core_state self.old) × (result ≡ Reply.Refused) }
-        ensures refused_only { result ≡ Reply.Refused → ¬ (Legal (core_state self.old) event) }
+        ensures step { tells self.old event ≡ true → (core_state self.new, result) ≡ step_of (core_state self.old) event }
+        ensures legal { tells self.old event ≡ true → Legal (core_state self.old) event → (core_state self.new ≡ after (core_state self.old) event) × (result ≡ answer (core_state self.old) event) }
+        ensures refused { tells self.old event ≡ true → ¬ (Legal (core_state self.old) event) → (core_state self.new ≡ core_state self.old) × (result ≡ Reply.Refused) }
+        ensures refused_only { tells self.old event ≡ true → result ≡ Reply.Refused → ¬ (Legal (core_state self.old) event) }
+        ensures untold { tells self.old event ≡ false → (core_state self.new ≡ core_state self.old) × (result ≡ Reply.Refused) }
         ensures law { Law (core_state self.new) }
         ensures agrees { Agrees (core_state self.new) }
         ensures world { Happens (world_of (core_state self.old)) event result (world_of (core_state self.new)) }
@@ -463,10 +545,23 @@ impl Core {
         self.memory.apply(event)
     }
 
+    /// The same, and stored words stay kept, if they are.
+    fn step_kept(&mut self, event: Event) -> Reply
+        ensures step { tells self.old event ≡ true → (core_state self.new, result) ≡ step_of (core_state self.old) event }
+        ensures law { Law (core_state self.new) }
+        ensures agrees { Agrees (core_state self.new) }
+        ensures world { Happens (world_of (core_state self.old)) event result (world_of (core_state self.new)) }
+        ensures kept { keeps_stored self.new ≡ keeps_stored self.old }
+    {
+        self.memory.apply_kept(event)
+    }
+
     /// Makes events in order, and answers the reply to each. Memory for all replies is taken first: refused
     /// [`Refused::Memory`], no event was made. Refused so alone.
+    ///
+    /// Where no stored words are kept and the list has a naming, it does of each event what [`Core::step`] does.
     pub fn run(&mut self, alloc: Global, events: &[Event]) -> Result<Vec<Reply>, Refused>
-        ensures runs { IfOk result (λ replies. (states : List State) × Leads (core_state self.old) events.now replies.items states (core_state self.new)
+        ensures runs { IfOk result (λ replies. tells_all self.old events.now ≡ true → (states : List State) × Leads (core_state self.old) events.now replies.items states (core_state self.new)
             × Runs (world_of (core_state self.old)) events.now replies.items (map world_of states)) }
         ensures refused { IfErr result (λ why. (why ≡ Refused.Memory) × (core_state self.new ≡ core_state self.old)) }
     {
@@ -474,7 +569,7 @@ impl Core {
             return Err(Refused::Memory);
         };
         for event in events {
-            let reply = self.step(*event);
+            let reply = self.step_kept(*event);
             replies.push_reserved(reply);
         }
         Ok(replies)

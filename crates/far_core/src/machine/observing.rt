@@ -33,6 +33,13 @@ impl Core {
         self.memory.is_honest()
     }
 
+    /// Whether copiers may have jobs, for good. No event changes it: without copiers each claim is refused.
+    pub fn has_copiers(&self) -> bool
+        ensures { result ≡ (core_state self.now).copying.has_copiers }
+    {
+        self.memory.has_copiers()
+    }
+
     /// The epoch, below 2^62.
     pub fn epoch(&self) -> u64
         ensures is { result ≡ (core_state self.now).epoch }

@@ -1,47 +1,54 @@
 //! A core at the start.
 
-ghost use Rattle.std.specs.Prelude.{◌≡◌, ◌↔◌, ◌≤◌, ◌<◌, false, true, cond, IfOk, IfErr, None, replicate};
-ghost use Rattle.std.specs.Vec.{vec_len};
+ghost use Rattle.std.specs.Prelude.{◌≡◌, ◌↔◌, ◌≤◌, ◌<◌, false, true, cond, IfOk, IfErr, IfSome, None, is_some};
 ghost use Rattle.far_core.specs.state.Agrees.{Agrees};
 ghost use Rattle.far_core.specs.world.World.{start};
 ghost use Rattle.far_core.specs.world.WorldOf.{world_of};
 ghost use Rattle.far_core.specs.state.CoreState.{core_state};
+ghost use Rattle.far_core.specs.state.Kept.{keeps_stored};
 ghost use Rattle.far_core.specs.state.Law.{Law};
 ghost use Rattle.far_core.specs.state.Memory.{state_of};
-ghost use Rattle.far_core.specs.state.Opening.{opening, unopened};
+ghost use Rattle.far_core.specs.state.Opening.{for_copiers, opening, unopened, without_copiers};
 ghost use Rattle.far_core.specs.state.Shape.{is_shape};
+ghost use Rattle.far_core.specs.state.Stored.{RowsAre};
+ghost use Rattle.far_word.specs.declared.sizes.TheConstants.{POINTERS};
 
 use crate::event::Kind;
 use crate::machine::Core;
 use crate::memory::Memory;
+use crate::memory::bits::Bits;
 use crate::memory::jobs::Jobs;
+use crate::memory::stored::Stored;
 use crate::memory::stored_rows::StoredRows;
+use crate::memory::words::Words;
 use crate::shape::Shape;
-use far_word::{CELLS, LOG_WORDS, Place, Refused};
+use far_word::{CELLS, LOG_WORDS, Refused};
 use std::alloc::{AllocError, Global};
 
-// How many words are filled at once.
-const STEP: usize = 240;
-
-// So many words of 0. They are filled a few at a time: where little is filled no instruction is repeated for each byte.
-fn zero_words(alloc: Global, len: usize) -> Result<Vec<u64>, AllocError>
-    ensures items { IfOk result (λ words. words.items ≡ replicate len 0) }
-    ensures len { IfOk result (λ words. vec_len words ≡ len) }
+// Rows where nothing is stored, if they are kept.
+fn no_rows(alloc: Global, pointers: usize, kept: bool) -> Result<Option<StoredRows>, AllocError>
+    requires { pointers ≤ POINTERS }
+    ensures kept { IfOk result (λ rows. is_some rows ≡ kept) }
+    ensures blank { IfOk result (λ rows. IfSome rows (λ rows. RowsAre pointers (λ _ _. 0) rows)) }
 {
-    let mut words = Vec::with_capacity(alloc, len)?;
-    while words.len() < len {
-        let filled = words.len() + STEP.min(len - words.len());
-        words.resize(filled, 0).unwrap();
+    if kept {
+        Ok(Some(StoredRows::new(alloc, pointers)?))
+    } else {
+        Ok(None)
     }
-    Ok(words)
 }
 
 impl Memory {
     /// All words but the epoch are 0 and all logs are free.
     #[tactic(auto, unfolding(crate::specs::state::Memory::state_of))]
-    fn unopened(alloc: Global, shape: Shape, honest: bool) -> Result<Memory, AllocError>
+    fn unopened(
+        alloc: Global,
+        shape: Shape,
+        honest: bool,
+        has_copiers: bool,
+    ) -> Result<Memory, AllocError>
         requires { is_shape shape ≡ true }
-        ensures { IfOk result (λ memory. state_of memory ≡ unopened shape honest) }
+        ensures { IfOk result (λ memory. state_of memory ≡ for_copiers has_copiers (unopened shape honest)) }
     {
         let logs = shape.logs as usize;
         let mutators = shape.mutators as usize;
@@ -52,21 +59,22 @@ impl Memory {
             epoch: shape.epoch,
             scopes: vec![in alloc; 0; mutators]?,
             cells: vec![in alloc; 0; cells]?,
-            words: zero_words(alloc, words)?,
+            words: Words::new(alloc, words)?,
             remembered: vec![in alloc; None; mutators]?,
             used: vec![in alloc; false; cells]?,
-            held: vec![in alloc; false; cells]?,
-            places: vec![in alloc; Place { log: 0, at: 0 }; cells]?,
-            soiled: vec![in alloc; false; cells]?,
+            held: Bits::new(alloc, cells / 64)?,
+            places: vec![in alloc; 0; cells]?,
+            soiled: Bits::new(alloc, cells / 64)?,
             kinds: vec![in alloc; Kind::Free; logs]?,
             tails: vec![in alloc; 0; logs]?,
             current: 0,
-            starts: vec![in alloc; false; words]?,
+            starts: Bits::new(alloc, words / 64)?,
             round: vec![in alloc; false; logs]?,
             round_epoch: shape.epoch,
             clear: vec![in alloc; false; mutators]?,
-            stored: StoredRows::new(alloc, cells)?,
-            jobs: Jobs::new(alloc)?,
+            stored: Stored::new(),
+            rows: None,
+            jobs: Jobs::new(alloc, has_copiers)?,
         })
     }
 }
@@ -78,6 +86,56 @@ impl Core {
     /// Refused, in this order: [`Refused::Shape`] exactly where the shape is out of range, [`Refused::Memory`].
     pub fn new(alloc: Global, shape: Shape, honest: bool) -> Result<Core, Refused>
         ensures opening { IfOk result (λ core. core_state core ≡ opening shape honest) }
+        ensures kept { IfOk result (λ core. keeps_stored core ≡ true) }
+        ensures law { IfOk result (λ core. Law (core_state core)) }
+        ensures agrees { IfOk result (λ core. Agrees (core_state core)) }
+        ensures world { IfOk result (λ core. world_of (core_state core) ≡ start honest) }
+        ensures shape { (result ≡ Err Refused.Shape) ↔ (is_shape shape ≡ false) }
+        ensures refused { IfErr result (λ why. why ≡ cond (is_shape shape) Refused.Memory Refused.Shape) }
+    {
+        Core::made(alloc, shape, honest, true, true)
+    }
+
+    /// The same without stored words: what is stored of an object is known to clauses alone, and no memory is taken that grows with
+    /// what is far. For programs, which make namings by [`Core::name`]: of one that is given as data such a core can't tell whether it
+    /// is legal.
+    pub fn without_stored(alloc: Global, shape: Shape, honest: bool) -> Result<Core, Refused>
+        ensures opening { IfOk result (λ core. core_state core ≡ opening shape honest) }
+        ensures kept { IfOk result (λ core. keeps_stored core ≡ false) }
+        ensures law { IfOk result (λ core. Law (core_state core)) }
+        ensures agrees { IfOk result (λ core. Agrees (core_state core)) }
+        ensures world { IfOk result (λ core. world_of (core_state core) ≡ start honest) }
+        ensures shape { (result ≡ Err Refused.Shape) ↔ (is_shape shape ≡ false) }
+        ensures refused { IfErr result (λ why. why ≡ cond (is_shape shape) Refused.Memory Refused.Shape) }
+    {
+        Core::made(alloc, shape, honest, false, true)
+    }
+
+    /// The same for one thread alone: without stored words, and without room for what copiers read and write, 69,632 bytes of near
+    /// memory. No copier ever has a job there: each [`Event::Claim`](crate::Event::Claim) is refused, and all else is as in a core made by
+    /// [`Core::without_stored`].
+    pub fn alone(alloc: Global, shape: Shape, honest: bool) -> Result<Core, Refused>
+        ensures opening { IfOk result (λ core. core_state core ≡ without_copiers (opening shape honest)) }
+        ensures kept { IfOk result (λ core. keeps_stored core ≡ false) }
+        ensures law { IfOk result (λ core. Law (core_state core)) }
+        ensures agrees { IfOk result (λ core. Agrees (core_state core)) }
+        ensures world { IfOk result (λ core. world_of (core_state core) ≡ start honest) }
+        ensures shape { (result ≡ Err Refused.Shape) ↔ (is_shape shape ≡ false) }
+        ensures refused { IfErr result (λ why. why ≡ cond (is_shape shape) Refused.Memory Refused.Shape) }
+    {
+        Core::made(alloc, shape, honest, false, false)
+    }
+
+    // A core at the start, which keeps stored words or doesn't, with copiers or without.
+    fn made(
+        alloc: Global,
+        shape: Shape,
+        honest: bool,
+        kept: bool,
+        has_copiers: bool,
+    ) -> Result<Core, Refused>
+        ensures opening { IfOk result (λ core. core_state core ≡ for_copiers has_copiers (opening shape honest)) }
+        ensures kept { IfOk result (λ core. keeps_stored core ≡ kept) }
         ensures law { IfOk result (λ core. Law (core_state core)) }
         ensures agrees { IfOk result (λ core. Agrees (core_state core)) }
         ensures world { IfOk result (λ core. world_of (core_state core) ≡ start honest) }
@@ -87,10 +145,14 @@ impl Core {
         if !shape.is_in_range() {
             return Err(Refused::Shape);
         }
-        let Ok(mut memory) = Memory::unopened(alloc, shape, honest) else {
+        let Ok(mut memory) = Memory::unopened(alloc, shape, honest, has_copiers) else {
+            return Err(Refused::Memory);
+        };
+        let Ok(rows) = no_rows(alloc, CELLS as usize * shape.mutators as usize, kept) else {
             return Err(Refused::Memory);
         };
         memory.set_kind(0, Kind::Open);
+        memory.put_rows(rows);
         Ok(Core { memory })
     }
 }

@@ -1,17 +1,18 @@
 //! Several events of one kind made at once, as one after the other.
 
-ghost use Rattle.std.specs.Prelude.{◌≡◌, ◌≢◌, ◌⊎◌, ◌+◌, ◌-◌, ◌*◌, ◌/◌, ◌^◌, ◌<◌, ◌≤◌, ℕ, true, false, length, slice_index, take, drop, Some, IsSome};
+ghost use Rattle.std.specs.Prelude.{◌≡◌, ◌≢◌, ◌⊎◌, ◌+◌, ◌-◌, ◌*◌, ◌/◌, ◌^◌, ◌<◌, ◌≤◌, ℕ, true, false, length, slice_index, slice_range, take, drop, Some, IsSome};
 ghost use Rattle.far_word.specs.declared.sizes.TheConstants.{CELLS, LOG_WORDS};
 ghost use Rattle.far_word.specs.Bytes.{bytes_of, packed_word};
 ghost use Rattle.far_word.specs.Sizes.{words_for};
 ghost use Rattle.far_word.specs.declared.pointer.Place.{Place};
 ghost use Rattle.far_core.specs.events.Ranges.{AllLegal, after_events, copies, puts, stores};
 ghost use Rattle.far_core.specs.events.Legal.{Legal};
-ghost use Rattle.far_core.specs.events.Step.{answer, data_len};
+ghost use Rattle.far_core.specs.events.Step.{answer, data_len, data_word};
 ghost use Rattle.far_core.specs.state.CoreState.{core_state};
 ghost use Rattle.far_core.specs.state.Law.{Law};
 ghost use Rattle.far_core.specs.state.Memory.{state_of};
 ghost use Rattle.far_core.specs.state.State.{State, addr};
+ghost use Rattle.far_core.specs.events.Written.{spliced, written_words};
 ghost use Rattle.far_core.specs.declared.event.Event.{Event};
 ghost use Rattle.far_core.specs.declared.event.Kind.{Kind};
 ghost use Rattle.far_core.specs.declared.event.Reply.{Reply};
@@ -53,6 +54,52 @@ impl Core {
             → (core_state self.new).word a ≡ (core_state self.old).word a }
     {
         self.memory.store_all(pointer, first, words);
+    }
+
+    /// Bytes of an object that its owner holds, from its byte `from` on, as many as there is room for: a load of each word that has
+    /// one.
+    #[inline]
+    pub fn load_bytes(&self, owner: u8, pointer: u16, from: u16, bytes: &mut [u8])
+        // the guards, in what its owner knows
+        requires own { pointer / CELLS ≡ owner }
+        requires held { IsSome ((core_state self.now).held pointer) }
+        requires inside { from + length bytes.old ≤ data_len (core_state self.now) pointer }
+        ensures bytes { bytes.new ≡ slice_range (bytes_of (λ i. (core_state self.now).word (data_word (core_state self.now) pointer i)) (data_len (core_state self.now) pointer)) from (from + length bytes.old) }
+        ensures told { (k : ℕ) → answer (core_state self.now) (Event.Load owner pointer k) ≡ Reply.Word ((core_state self.now).word (data_word (core_state self.now) pointer k)) }
+        ensures legal { (k : ℕ) → 8 * k < from + length bytes.old → Legal (core_state self.now) (Event.Load owner pointer k) }
+    {
+        self.memory.load_bytes(pointer, from, bytes);
+    }
+
+    /// Bytes of an object that its owner has soiled, from its byte `from` on, become `bytes`: a store of each word that has one.
+    #[inline]
+    #[tactic(auto, using(crate::proofs::Calls::soiled_held))]
+    pub fn store_bytes(&mut self, owner: u8, pointer: u16, from: u16, bytes: &[u8])
+        // the guards, in what its owner knows
+        requires own { pointer / CELLS ≡ owner }
+        requires soiled { (core_state self.old).soiled pointer ≡ true }
+        requires inside { from + length bytes.now ≤ data_len (core_state self.old) pointer }
+        ensures state { core_state self.new ≡ after_events (core_state self.old) (stores owner pointer (from / 8) (written_words (λ i. (core_state self.old).word (data_word (core_state self.old) pointer i)) from bytes.now)) }
+        ensures legal { AllLegal (core_state self.old) (stores owner pointer (from / 8) (written_words (λ i. (core_state self.old).word (data_word (core_state self.old) pointer i)) from bytes.now)) }
+        // the same by bytes: these are the object's now from `from` on, and its others and all other words stay
+        ensures bytes { bytes_of (λ i. (core_state self.new).word (data_word (core_state self.old) pointer i)) (data_len (core_state self.old) pointer)
+            ≡ spliced (bytes_of (λ i. (core_state self.old).word (data_word (core_state self.old) pointer i)) (data_len (core_state self.old) pointer)) from bytes.now }
+        ensures others { (place : Place) → (core_state self.old).held pointer ≡ Some place → (a : ℕ) → (a < addr place + 1 + from / 8) ⊎ (addr place + 1 + words_for (from + length bytes.now) ≤ a)
+            → (core_state self.new).word a ≡ (core_state self.old).word a }
+    {
+        self.memory.store_bytes(pointer, from, bytes);
+    }
+
+    /// Bytes of the words from a place on, from their byte `from` on, as many as there is room for: a get of each word that has one.
+    #[inline]
+    pub fn get_bytes(&self, place: Place, from: u16, bytes: &mut [u8])
+        requires log { place.log < (core_state self.now).logs }
+        requires inside { 8 * place.at + from + length bytes.old ≤ 8 * LOG_WORDS }
+        ensures bytes { (len : ℕ) → from + length bytes.old ≤ len → bytes.new ≡ slice_range (bytes_of (λ i. (core_state self.now).word (addr place + i)) len) from (from + length bytes.old) }
+        ensures told { (k : ℕ) → answer (core_state self.now) (Event.Get place.log (place.at + k) false) ≡ Reply.Word ((core_state self.now).word (place.log * LOG_WORDS + (place.at + k))) }
+        ensures legal { (k : ℕ) → 8 * k < from + length bytes.old → Legal (core_state self.now) (Event.Get place.log (place.at + k) false) }
+    {
+        self.memory.get_bytes(place, from, bytes);
     }
 
     /// The `count` words from a place on, of a log that is open or free, at or past its tail, become 0: a put each.

@@ -1,6 +1,6 @@
 //! The events of the book.
 
-ghost use Rattle.std.specs.Prelude.{◌≡◌, ◌<◌, ◌≤◌, ◌+◌, ◌*◌, ℕ, true, IfErr, IfOk, IsSome, None, Some};
+ghost use Rattle.std.specs.Prelude.{◌≡◌, ◌<◌, ◌≤◌, ◌+◌, ◌*◌, ℕ, true, IfErr, IfOk, IsSome, None, Some, is_some};
 ghost use Rattle.far_core.specs.state.State.{State, addr, put};
 ghost use Rattle.far_core.specs.declared.event.Event.{Event};
 ghost use Rattle.far_core.specs.declared.event.Reply.{Reply};
@@ -16,6 +16,8 @@ ghost use Rattle.far_core.specs.events.Get.{is_copied_at, is_live_at, may_free, 
 ghost use Rattle.far_core.specs.events.Mark.{may_mark, is_sealed};
 ghost use Rattle.far_core.specs.state.Jobs.{job_said};
 ghost use Rattle.far_core.specs.state.Spans.{names_place};
+ghost use Rattle.far_core.specs.state.Stored.{RowsAre};
+ghost use Rattle.far_core.specs.state.StoredRows.{stored_in};
 ghost use Rattle.far_word.specs.Job.{job_of};
 ghost use Rattle.far_log.specs.Spans.{pointer_in};
 ghost use Rattle.far_word.specs.Header.{head_of};
@@ -26,6 +28,7 @@ ghost use Rattle.far_word.specs.Sizes.{size_of, words_for};
 use crate::event::Kind;
 use crate::memory::Memory;
 use crate::memory::reading::first_word;
+use crate::memory::stored_rows::StoredRows;
 use crate::naming::Naming;
 use far_word::{
     CELLS, HeadWord, JOBS, Job, JobWord, LOG_WORDS, Mark, Place, PtrWord, pointer_len,
@@ -149,18 +152,33 @@ impl Memory {
         Ok(())
     }
 
+    /// Whether a naming is legal, where the stored words are kept.
     pub(crate) fn may_name(&self, pointer: u16, old: u64, new: u64) -> bool
-        requires { Law (state_of self.now) }
+        requires law { Law (state_of self.now) }
+        requires kept { is_some self.now.rows ≡ true }
+        ensures { result ≡ is_legal (state_of self.now) (Event.Name pointer old new) }
+    {
+        let Some(rows) = &self.rows else {
+            unreachable!()
+        };
+        self.may_name_by(rows, pointer, old, new)
+    }
+
+    /// Whether a naming is legal, by rows of what is stored.
+    fn may_name_by(&self, rows: &StoredRows, pointer: u16, old: u64, new: u64) -> bool
+        requires law { Law (state_of self.now) }
+        requires rows { stored_in rows.now ≡ (state_of self.now).stored }
         ensures { result ≡ is_legal (state_of self.now) (Event.Name pointer old new) }
     {
         match Naming::of(old, new) {
-            Some(form) => self.has_pointer(pointer) && self.may_make(pointer, form),
+            Some(form) => self.has_pointer(pointer) && self.may_make(rows, pointer, form),
             None => false,
         }
     }
 
     /// Whether a form may be made of a pointer.
-    fn may_make(&self, pointer: u16, form: Naming) -> bool
+    fn may_make(&self, rows: &StoredRows, pointer: u16, form: Naming) -> bool
+        requires rows { stored_in rows.now ≡ (state_of self.now).stored }
         requires pointer { pointer < CELLS * (state_of self.now).mutators }
         requires layout { IsOnLayout form }
         requires law { Law (state_of self.now) }
@@ -175,7 +193,7 @@ impl Memory {
             Naming::Evicts { .. } => self.is_quiet(pointer),
             Naming::Stays => true,
             Naming::Moves { len, ds, from, to } => self.may_move(pointer, len, ds, from, to),
-            Naming::Fetches { len, ds, place } => self.may_fetch(pointer, len, ds, place),
+            Naming::Fetches { len, ds, place } => self.may_fetch(rows, pointer, len, ds, place),
         }
     }
 
@@ -237,6 +255,65 @@ impl Memory {
             unreachable!()
         };
         self.evict(pointer, new, len, place);
+    }
+
+    /// Rows of stored words get those of an object that a legal naming sends far.
+    pub(crate) fn store_leaving(&self, rows: &mut StoredRows, pointer: u16, old: u64, new: u64)
+        requires law { Law (state_of self.now) }
+        requires legal { is_legal (state_of self.now) (Event.Name pointer old new) ≡ true }
+        requires rows { RowsAre (CELLS * (state_of self.now).mutators) (state_of self.now).stored rows.old }
+        ensures { RowsAre (CELLS * (state_of self.now).mutators) (next_state (state_of self.now) (Event.Name pointer old new)).stored rows.new }
+    {
+        if self.cell_at(pointer) != old {
+            return;
+        }
+        match resting_place(new) {
+            Some(_) => {}
+            None => self.store_gone(rows, pointer, old, new),
+        }
+    }
+
+    /// The same, where the naming leaves the object no place.
+    fn store_gone(&self, rows: &mut StoredRows, pointer: u16, old: u64, new: u64)
+        requires law { Law (state_of self.now) }
+        requires legal { is_legal (state_of self.now) (Event.Name pointer old new) ≡ true }
+        requires cell { (state_of self.now).cell pointer ≡ old }
+        requires away { (v : PtrWord) → read_of new ≡ Some v → view_place v ≡ None }
+        requires rows { RowsAre (CELLS * (state_of self.now).mutators) (state_of self.now).stored rows.old }
+        ensures { RowsAre (CELLS * (state_of self.now).mutators) (after_naming (state_of self.now) pointer new (naming_of (read_of old) (read_of new))).stored rows.new }
+    {
+        if new == 0 {
+            return;
+        }
+        let PtrWord::Near { len, place, .. } = PtrWord::known(old) else {
+            unreachable!()
+        };
+        self.store_in(rows, pointer, len, place);
+    }
+
+    /// Rows of stored words get those of an object.
+    fn store_in(&self, rows: &mut StoredRows, pointer: u16, len: u16, place: Place)
+        requires pointer { pointer < CELLS * (state_of self.now).mutators }
+        requires law { Law (state_of self.now) }
+        requires near { IsAt (state_of self.now) pointer len place }
+        requires rows { RowsAre (CELLS * (state_of self.now).mutators) (state_of self.now).stored rows.old }
+        ensures { RowsAre (CELLS * (state_of self.now).mutators) (put (state_of self.now).stored pointer (with_kept (state_of self.now).word (state_of self.now).stored pointer (addr place + 1) (words_for len))) rows.new }
+    {
+        let from = first_word(place) + 1;
+        self.put_in(rows, pointer, from, words_for(len));
+    }
+
+    /// Rows of stored words get the words from one on.
+    #[tactic(auto, unfolding(crate::specs::state::Memory::state_of))]
+    fn put_in(&self, rows: &mut StoredRows, pointer: u16, from: usize, count: u16)
+        requires pointer { pointer < CELLS * (state_of self.now).mutators }
+        requires row { count ≤ LOG_WORDS }
+        requires inside { from + count ≤ LOG_WORDS * (state_of self.now).logs }
+        requires rows { RowsAre (CELLS * (state_of self.now).mutators) (state_of self.now).stored rows.old }
+        ensures { RowsAre (CELLS * (state_of self.now).mutators) (put (state_of self.now).stored pointer (with_kept (state_of self.now).word (state_of self.now).stored pointer from count)) rows.new }
+    {
+        let bytes = &self.words.bytes[8 * from..8 * (from + count as usize)];
+        rows.store_bytes(pointer, count, bytes);
     }
 
     /// Stores an object's words, and names it far.

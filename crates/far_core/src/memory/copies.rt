@@ -11,6 +11,7 @@ ghost use Rattle.far_core.specs.declared.naming.Naming.{Naming};
 ghost use Rattle.far_core.specs.state.Law.{Law};
 ghost use Rattle.far_core.specs.state.Memory.{state_of};
 ghost use Rattle.far_core.specs.state.State.{State};
+ghost use Rattle.far_core.specs.state.StoredRows.{stored_in};
 ghost use Rattle.far_word.specs.Job.{job_of};
 ghost use Rattle.far_word.specs.Pointer.{IsPtr, read_of};
 ghost use Rattle.far_word.specs.Sizes.{words_for};
@@ -20,6 +21,7 @@ use crate::memory::Memory;
 use crate::memory::book::names_place;
 use crate::memory::owner::keeps_padding;
 use crate::memory::reading::first_word;
+use crate::memory::stored_rows::StoredRows;
 use far_word::{JOBS, JobWord, Place, PtrWord, words_for};
 
 impl Memory {
@@ -84,7 +86,15 @@ impl Memory {
     }
 
     /// Whether a far object may come near.
-    pub(crate) fn may_fetch(&self, pointer: u16, len: u16, ds: u8, place: Place) -> bool
+    pub(crate) fn may_fetch(
+        &self,
+        rows: &StoredRows,
+        pointer: u16,
+        len: u16,
+        ds: u8,
+        place: Place,
+    ) -> bool
+        requires rows { stored_in rows.now ≡ (state_of self.now).stored }
         requires layout { IsPtr (PtrWord.Near len ds place no_marks) }
         requires pointer { pointer < CELLS * (state_of self.now).mutators }
         requires law { Law (state_of self.now) }
@@ -92,7 +102,7 @@ impl Memory {
     {
         self.is_new_span(pointer, len, ds, place)
             && self.ends_padded(len, place)
-            && (!self.is_honest() || self.is_stored_at(pointer, len, place))
+            && (!self.is_honest() || self.is_stored_at(rows, pointer, len, place))
     }
 
     /// Whether the last data word at a place has zeros after the last byte.
@@ -107,14 +117,15 @@ impl Memory {
     }
 
     /// Whether as many words are stored of a pointer, and they stand at a place.
-    fn is_stored_at(&self, pointer: u16, len: u16, place: Place) -> bool
+    fn is_stored_at(&self, rows: &StoredRows, pointer: u16, len: u16, place: Place) -> bool
+        requires rows { stored_in rows.now ≡ (state_of self.now).stored }
         requires law { Law (state_of self.now) }
         requires inside { place.at + words_for len < LOG_WORDS }
         requires log { place.log < (state_of self.now).logs }
         ensures { result ≡ is_stored_at (state_of self.now) pointer len place }
     {
         words_stored(self.cell(pointer)) == words_for(len)
-            && self.has_stored(pointer, first_word(place) + 1, words_for(len))
+            && self.has_stored(rows, pointer, first_word(place) + 1, words_for(len))
     }
 
     /// Whether `count` words from `at` on are those from `from` on.
@@ -134,13 +145,15 @@ impl Memory {
 
     /// Whether `count` words from `at` on are those stored of a pointer.
     #[tactic(auto, unfolding(crate::specs::state::Memory::state_of))]
-    fn has_stored(&self, pointer: u16, at: usize, count: u16) -> bool
+    fn has_stored(&self, rows: &StoredRows, pointer: u16, at: usize, count: u16) -> bool
+        requires rows { stored_in rows.now ≡ (state_of self.now).stored }
         requires at { at + count ≤ LOG_WORDS * (state_of self.now).logs }
         requires count { count ≤ LOG_WORDS }
         ensures { result ≡ alike (λ i. (state_of self.now).word (at + i)) ((state_of self.now).stored pointer) count }
     {
         for k in 0..count {
-            if self.word(at + k as usize) != self.stored(pointer, k) {
+            let stored = rows.word(pointer, k);
+            if self.word(at + k as usize) != stored {
                 return false;
             }
         }

@@ -1,6 +1,6 @@
 //! The events of copiers, and of the book about their jobs.
 
-ghost use Rattle.std.specs.Prelude.{◌≡◌, ◌<◌, ◌*◌, ◌+◌, ◌/◌, ◌==◌, cond, true, false, Some, None, IfErr, IfOk, IsSome, is_some};
+ghost use Rattle.std.specs.Prelude.{◌≡◌, ◌<◌, ◌*◌, ◌+◌, ◌/◌, ◌==◌, cond, true, false, Some, None, IfErr, IfOk, IfSome, IsSome, is_some};
 ghost use Rattle.far_core.specs.declared.event.Event.{Event};
 ghost use Rattle.far_core.specs.declared.event.Reply.{Reply};
 ghost use Rattle.far_core.specs.events.Claim.{offered_in};
@@ -26,7 +26,11 @@ impl Memory {
     pub(crate) fn may_claim(&self, copier: u8, job: u8, old: u64) -> bool
         ensures { result ≡ is_legal (state_of self.now) (Event.Claim copier job old) }
     {
-        copier < MOST_COPIERS && job < JOBS && !self.has_task(copier) && offered_in(old).is_some()
+        copier < MOST_COPIERS
+            && job < JOBS
+            && !self.has_task(copier)
+            && offered_in(old).is_some()
+            && self.has_copiers()
     }
 
     /// A copier takes an offered job, where its word is `old`; else `Err` with the word.
@@ -202,6 +206,12 @@ impl Memory {
 
 #[tactic(auto, unfolding(crate::specs::state::Memory::state_of))]
 impl Memory {
+    pub(crate) fn has_copiers(&self) -> bool
+        ensures { result ≡ (state_of self.now).copying.has_copiers }
+    {
+        self.jobs.has_copiers()
+    }
+
     fn has_task(&self, copier: u8) -> bool
         requires { copier < MOST_COPIERS }
         ensures { result ≡ is_some ((state_of self.now).copying.task copier) }
@@ -210,7 +220,8 @@ impl Memory {
     }
 
     fn task(&self, copier: u8) -> Option<Task>
-        ensures { result ≡ (state_of self.now).copying.task copier }
+        ensures is { result ≡ (state_of self.now).copying.task copier }
+        ensures has { IfSome result (λ _. (state_of self.now).copying.has_copiers ≡ true) }
     {
         self.jobs.task(copier)
     }
@@ -230,6 +241,7 @@ impl Memory {
     fn learn_word(&mut self, copier: u8, index: u16, word: u64)
         requires copier { copier < MOST_COPIERS }
         requires index { index < LOG_WORDS }
+        requires has { (state_of self.old).copying.has_copiers ≡ true }
         ensures { state_of self.new ≡ record (state_of self.old) { copying = record (state_of self.old).copying { read = put (state_of self.old).copying.read copier (put ((state_of self.old).copying.read copier) index (Some word)) } } }
     {
         self.jobs.reach(copier);
@@ -239,6 +251,7 @@ impl Memory {
     fn note_written(&mut self, copier: u8, index: u16)
         requires copier { copier < MOST_COPIERS }
         requires index { index < LOG_WORDS }
+        requires has { (state_of self.old).copying.has_copiers ≡ true }
         ensures { state_of self.new ≡ record (state_of self.old) { copying = record (state_of self.old).copying { written = put (state_of self.old).copying.written copier (put ((state_of self.old).copying.written copier) index true) } } }
     {
         self.jobs.reach(copier);
@@ -268,7 +281,8 @@ impl Memory {
 
     /// A copier has a job, of which it has read and written nothing.
     fn begin_task(&mut self, copier: u8, task: Task)
-        requires { copier < MOST_COPIERS }
+        requires copier { copier < MOST_COPIERS }
+        requires has { (state_of self.old).copying.has_copiers ≡ true }
         ensures { state_of self.new ≡ record (state_of self.old) {
           copying = record (state_of self.old).copying {
             task = put (state_of self.old).copying.task copier (Some task);

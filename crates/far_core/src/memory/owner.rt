@@ -65,7 +65,7 @@ impl Memory {
         self.set_cell(pointer, old | Mark::Hot.mask());
         match place_to_view(old) {
             Some(place) => {
-                self.hold(pointer as usize, Some(place));
+                self.hold(pointer, place);
                 Ok(place)
             }
             None => Err(old),

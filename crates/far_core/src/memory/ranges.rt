@@ -1,6 +1,6 @@
 //! Several words of the memory at once.
 
-ghost use Rattle.std.specs.Prelude.{◌≡◌, ◌*◌, ◌+◌, ◌<◌, ◌≤◌, ℕ, length, slice_index, take, drop, IsSome};
+ghost use Rattle.std.specs.Prelude.{◌≡◌, ◌*◌, ◌/◌, ◌^◌, ◌+◌, ◌<◌, ◌≤◌, ℕ, length, slice_index, slice_range, take, drop, IsSome};
 ghost use Rattle.far_word.specs.Bytes.{bytes_of, packed_word};
 ghost use Rattle.far_word.specs.Pointer.{read_of};
 ghost use Rattle.far_word.specs.Sizes.{words_for};
@@ -9,11 +9,12 @@ ghost use Rattle.far_core.specs.events.Ranges.{with_copy, with_row};
 ghost use Rattle.far_core.specs.events.Step.{data_len, data_word, near_data};
 ghost use Rattle.far_core.specs.state.Law.{Law};
 ghost use Rattle.far_core.specs.state.Memory.{state_of};
-ghost use Rattle.far_core.specs.state.State.{State};
+ghost use Rattle.far_core.specs.state.State.{State, addr};
+ghost use Rattle.far_core.specs.events.Written.{written_words};
 
 use crate::memory::Memory;
 use crate::memory::reading::first_word;
-use far_word::{Place, pack_bytes, unpack_bytes};
+use far_word::Place;
 
 #[tactic(auto, unfolding(crate::specs::state::Memory::state_of))]
 impl Memory {
@@ -22,7 +23,25 @@ impl Memory {
         requires { from + length words.old ≤ LOG_WORDS * (state_of self.now).logs }
         ensures { (k : ℕ) → k < length words.old → slice_index words.new k ≡ (state_of self.now).word (from + k) }
     {
-        words.copy_from_slice(&self.words[from..from + words.len()]);
+        self.words.load(from, words);
+    }
+
+    /// Reads the bytes of the words from one on, from the byte `from` of them on, as many as there is room for.
+    fn read_bytes(&self, first: usize, from: usize, bytes: &mut [u8])
+        requires { 8 * first + from + length bytes.old ≤ 8 * (LOG_WORDS * (state_of self.now).logs) }
+        ensures bytes { (len : ℕ) → from + length bytes.old ≤ len → bytes.new ≡ slice_range (bytes_of (λ i. (state_of self.now).word (first + i)) len) from (from + length bytes.old) }
+        ensures length { length bytes.new ≡ length bytes.old }
+    {
+        self.words.read(8 * first + from, bytes);
+    }
+
+    /// Writes bytes over those of the words from one on, from the byte `from` of them on.
+    fn write_bytes(&mut self, first: usize, from: usize, bytes: &[u8])
+        requires inside { 8 * first + from + length bytes.now ≤ 8 * (LOG_WORDS * (state_of self.old).logs) }
+        requires wide { (a : ℕ) → (state_of self.old).word a < 2 ^ 64 }
+        ensures { state_of self.new ≡ record (state_of self.old) { word = with_row (state_of self.old).word (first + from / 8) (length (written_words (λ i. (state_of self.old).word (first + i)) from bytes.now)) (λ k. slice_index (written_words (λ i. (state_of self.old).word (first + i)) from bytes.now) k) } }
+    {
+        self.words.write(8 * first + from, bytes);
     }
 
     /// Writes words over those from one on.
@@ -30,7 +49,7 @@ impl Memory {
         requires { from + length words.now ≤ LOG_WORDS * (state_of self.old).logs }
         ensures { state_of self.new ≡ record (state_of self.old) { word = with_row (state_of self.old).word from (length words.now) (λ k. slice_index words.now k) } }
     {
-        self.words[from..from + words.len()].copy_from_slice(words);
+        self.words.store(from, words);
     }
 
     /// Writes zeros over the words from one on.
@@ -38,10 +57,10 @@ impl Memory {
         requires { from + count ≤ LOG_WORDS * (state_of self.old).logs }
         ensures { state_of self.new ≡ record (state_of self.old) { word = with_row (state_of self.old).word from count (λ _. 0) } }
     {
-        self.words[from..from + count].fill(0);
+        self.words.zero(from, count);
     }
 
-    /// Unpacks the words from one on over the first bytes of a row.
+    /// Reads the bytes of the words from one on over the first of a row.
     fn unpack_words(&self, from: usize, count: usize, row: &mut [u8])
         requires words { from + count ≤ LOG_WORDS * (state_of self.now).logs }
         requires room { 8 * count ≤ length row.old }
@@ -49,16 +68,16 @@ impl Memory {
         ensures behind { drop (8 * count) row.new ≡ drop (8 * count) row.old }
         ensures length { length row.new ≡ length row.old }
     {
-        unpack_bytes(&self.words[from..from + count], &mut row[..8 * count]);
+        self.words.read(8 * from, &mut row[..8 * count]);
     }
 
-    /// Packs the first bytes of a row into the words from one on.
+    /// Writes the first bytes of a row over the words from one on.
     fn pack_words(&mut self, from: usize, count: usize, bytes: &[u8])
         requires words { from + count ≤ LOG_WORDS * (state_of self.old).logs }
         requires bytes { 8 * count ≤ length bytes.now }
         ensures { state_of self.new ≡ record (state_of self.old) { word = with_row (state_of self.old).word from count (packed_word bytes.now) } }
     {
-        pack_bytes(&bytes[..8 * count], &mut self.words[from..from + count]);
+        self.words.put(from, count, &bytes[..8 * count]);
     }
 
     /// Copies the words from one on over those from another on.
@@ -67,19 +86,7 @@ impl Memory {
         requires target { target + count ≤ LOG_WORDS * (state_of self.old).logs }
         ensures { state_of self.new ≡ record (state_of self.old) { word = with_copy (state_of self.old).word source target count } }
     {
-        copy_over(&mut self.words, source, target, count);
-    }
-}
-
-/// Copies the words from one on over those from another on, one after the other.
-fn copy_over(words: &mut [u64], source: usize, target: usize, count: usize)
-    requires source { source + count ≤ length words.old }
-    requires target { target + count ≤ length words.old }
-    ensures words { (λ (a : ℕ). slice_index words.new a) ≡ with_copy (λ a. slice_index words.old a) source target count }
-    ensures length { length words.new ≡ length words.old }
-{
-    for i in 0..count {
-        words[target + i] = words[source + i];
+        self.words.carry(source, target, count);
     }
 }
 
@@ -110,6 +117,34 @@ impl Memory {
         ensures { state_of self.new ≡ record (state_of self.old) { word = with_row (state_of self.old).word (data_word (state_of self.old) pointer first) (length words.now) (λ k. slice_index words.now k) } }
     {
         self.write_words(self.first_data(pointer) + first as usize, words);
+    }
+
+    pub(crate) fn load_bytes(&self, pointer: u16, from: u16, bytes: &mut [u8])
+        requires law { Law (state_of self.now) }
+        requires held { IsSome ((state_of self.now).held pointer) }
+        requires inside { from + length bytes.old ≤ data_len (state_of self.now) pointer }
+        ensures bytes { bytes.new ≡ slice_range (bytes_of (λ i. (state_of self.now).word (data_word (state_of self.now) pointer i)) (data_len (state_of self.now) pointer)) from (from + length bytes.old) }
+        ensures length { length bytes.new ≡ length bytes.old }
+    {
+        self.read_bytes(self.first_data(pointer), from as usize, bytes);
+    }
+
+    pub(crate) fn store_bytes(&mut self, pointer: u16, from: u16, bytes: &[u8])
+        requires law { Law (state_of self.old) }
+        requires held { IsSome ((state_of self.old).held pointer) }
+        requires inside { from + length bytes.now ≤ data_len (state_of self.old) pointer }
+        ensures { state_of self.new ≡ record (state_of self.old) { word = with_row (state_of self.old).word (data_word (state_of self.old) pointer (from / 8)) (length (written_words (λ i. (state_of self.old).word (data_word (state_of self.old) pointer i)) from bytes.now)) (λ k. slice_index (written_words (λ i. (state_of self.old).word (data_word (state_of self.old) pointer i)) from bytes.now) k) } }
+    {
+        self.write_bytes(self.first_data(pointer), from as usize, bytes);
+    }
+
+    pub(crate) fn get_bytes(&self, place: Place, from: u16, bytes: &mut [u8])
+        requires log { place.log < (state_of self.now).logs }
+        requires inside { 8 * place.at + from + length bytes.old ≤ 8 * LOG_WORDS }
+        ensures bytes { (len : ℕ) → from + length bytes.old ≤ len → bytes.new ≡ slice_range (bytes_of (λ i. (state_of self.now).word (addr place + i)) len) from (from + length bytes.old) }
+        ensures length { length bytes.new ≡ length bytes.old }
+    {
+        self.read_bytes(first_word(place), from as usize, bytes);
     }
 
     pub(crate) fn put_zeros(&mut self, place: Place, count: u16)

@@ -5,7 +5,7 @@ ghost use Rattle.far_word.specs.declared.sizes.TheConstants.{CELLS};
 ghost use Rattle.far_core.specs.state.State.{State, addr};
 ghost use Rattle.far_core.specs.state.Law.{in_use};
 ghost use Rattle.far_core.specs.events.Step.{is_closed, is_opened, holds, place_to_view, zeros, near_len};
-ghost use Rattle.far_core.specs.state.Memory.{state_of};
+ghost use Rattle.far_core.specs.state.Memory.{place_in, state_of};
 ghost use Rattle.far_word.specs.Pointer.{read_of};
 
 use crate::event::Kind;
@@ -126,21 +126,21 @@ impl Memory {
         if !self.is_held(pointer) {
             return None;
         }
-        Some(self.places[pointer as usize])
+        Some(self.held_place(pointer))
     }
 
     #[tactic(auto, unfolding(crate::specs::state::Memory::state_of))]
     pub(crate) fn is_held(&self, pointer: u16) -> bool
         ensures { result ≡ is_some ((state_of self.now).held pointer) }
     {
-        self.held.get(pointer as usize).copied().unwrap_or(false)
+        self.held.has(pointer as usize)
     }
 
     #[tactic(auto, unfolding(crate::specs::state::Memory::state_of))]
     pub(crate) fn is_soiled(&self, pointer: u16) -> bool
         ensures { result ≡ (state_of self.now).soiled pointer }
     {
-        self.soiled.get(pointer as usize).copied().unwrap_or(false)
+        self.soiled.has(pointer as usize)
     }
 
     #[tactic(auto, unfolding(crate::specs::state::Memory::state_of))]
@@ -148,7 +148,8 @@ impl Memory {
         requires { IsSome ((state_of self.now).held pointer) }
         ensures { (state_of self.now).held pointer ≡ Some result }
     {
-        self.places[pointer as usize]
+        let number = self.places[pointer as usize];
+        place_in(number)
     }
 
     #[tactic(auto, unfolding(crate::specs::state::Memory::state_of))]
@@ -179,7 +180,7 @@ impl Memory {
         requires { at < LOG_WORDS * (state_of self.now).logs }
         ensures { result ≡ (state_of self.now).word at }
     {
-        self.words[at]
+        self.words.word(at)
     }
 
     #[tactic(auto, unfolding(crate::specs::state::Memory::state_of))]
@@ -187,7 +188,7 @@ impl Memory {
         requires { at < LOG_WORDS * (state_of self.now).logs }
         ensures { result ≡ (state_of self.now).starts at }
     {
-        self.starts[at]
+        self.starts.at(at)
     }
 
     #[tactic(auto, unfolding(crate::specs::state::Memory::state_of))]
@@ -204,14 +205,6 @@ impl Memory {
         ensures { result ≡ (state_of self.now).tail log }
     {
         self.tails[log as usize]
-    }
-
-    #[tactic(auto, unfolding(crate::specs::state::Memory::state_of))]
-    pub(crate) fn stored(&self, pointer: u16, index: u16) -> u64
-        requires { index < LOG_WORDS }
-        ensures { result ≡ (state_of self.now).stored pointer index }
-    {
-        self.stored.word(pointer, index)
     }
 
     #[tactic(auto, unfolding(crate::specs::state::Memory::state_of))]
@@ -260,6 +253,16 @@ pub(crate) fn near_len(cell: u64) -> u16
     match PtrWord::known(cell) {
         PtrWord::Near { len, .. } => len,
         PtrWord::Free | PtrWord::Far { .. } => 0,
+    }
+}
+
+/// The place that the number of a word says.
+fn place_in(number: u16) -> Place
+    ensures { result ≡ place_in number }
+{
+    Place {
+        log: (number / LOG_WORDS) as u8,
+        at: number % LOG_WORDS,
     }
 }
 

@@ -3,10 +3,11 @@
 ghost use Rattle.std.specs.Prelude.{◌≡◌, ◌+◌, ◌*◌, ◌<◌, ◌≤◌, ℕ, length, slice_index};
 ghost use Rattle.std.specs.List.{sum_by};
 ghost use Rattle.std.specs.Vec.{vec_capacity, vec_len};
+ghost use Rattle.far_word.specs.Bytes.{words_of};
 ghost use Rattle.far_word.specs.declared.sizes.TheConstants.{LOG_WORDS, POINTERS};
 ghost use Rattle.far_core.specs.state.Rows.{HalfOrAll, RowsAreApart, RowsFit, RowsSized, room_in};
 
-use far_word::LOG_WORDS;
+use far_word::{LOG_WORDS, pack_bytes};
 use std::alloc::{AllocError, Global};
 
 /// The words of one pointer: the first of them, and for how many there is room.
@@ -63,17 +64,18 @@ impl StoredRows {
         self.words[row.start as usize + index as usize]
     }
 
-    /// The words become the first that are stored of a pointer; its other stored words stay.
-    pub(crate) fn store(&mut self, pointer: u16, words: &[u64])
+    /// The words of these bytes become the first that are stored of a pointer; its other stored words stay.
+    pub(crate) fn store_bytes(&mut self, pointer: u16, count: u16, bytes: &[u8])
         requires pointer { pointer < vec_len self.old.row_of }
-        requires short { length words.now ≤ LOG_WORDS }
+        requires short { count ≤ LOG_WORDS }
+        requires bytes { length bytes.now ≡ 8 * count }
         ensures sized { vec_len self.new.row_of ≡ vec_len self.old.row_of }
-        ensures stored { stored_in self.new ≡ put (stored_in self.old) pointer (with_first (length words.now) (λ i. slice_index words.now i) (stored_in self.old pointer)) }
+        ensures stored { stored_in self.new ≡ put (stored_in self.old) pointer (with_first (length (words_of bytes.now)) (λ i. slice_index (words_of bytes.now) i) (stored_in self.old pointer)) }
     {
-        if words.len() <= self.row(pointer).room as usize {
-            self.write_row(pointer, words);
+        if count <= self.row(pointer).room {
+            self.write_row(pointer, count, bytes);
         } else {
-            self.append_row(pointer, words);
+            self.append_row(pointer, count, bytes);
         }
     }
 
@@ -87,29 +89,31 @@ impl StoredRows {
             .unwrap_or(Row { start: 0, room: 0 })
     }
 
-    /// A pointer whose row has no room for these words gets the next row, which begins with them.
-    fn append_row(&mut self, pointer: u16, words: &[u64])
+    /// A pointer whose row has no room for the words of these bytes gets the next row, which begins with them.
+    fn append_row(&mut self, pointer: u16, count: u16, bytes: &[u8])
         requires pointer { pointer < vec_len self.old.row_of }
-        requires longer { room_in (row_at self.old.row_of.items pointer) < length words.now }
-        requires short { length words.now ≤ LOG_WORDS }
+        requires longer { room_in (row_at self.old.row_of.items pointer) < count }
+        requires short { count ≤ LOG_WORDS }
+        requires bytes { length bytes.now ≡ 8 * count }
         ensures sized { vec_len self.new.row_of ≡ vec_len self.old.row_of }
-        ensures stored { stored_in self.new ≡ put (stored_in self.old) pointer (with_first (length words.now) (λ i. slice_index words.now i) (stored_in self.old pointer)) }
+        ensures stored { stored_in self.new ≡ put (stored_in self.old) pointer (with_first (length (words_of bytes.now)) (λ i. slice_index (words_of bytes.now) i) (stored_in self.old pointer)) }
     {
         let start = self.words.len() as u32;
-        let room = next_room(words.len() as u16, self.row(pointer).room);
-        add_row(&mut self.words, words, room);
+        let room = next_room(count, self.row(pointer).room);
+        add_row(&mut self.words, count, bytes, room);
         self.row_of[pointer as usize] = Row { start, room };
     }
 
-    /// The words become the first of a pointer's row.
-    fn write_row(&mut self, pointer: u16, words: &[u64])
+    /// The words of these bytes become the first of a pointer's row.
+    fn write_row(&mut self, pointer: u16, count: u16, bytes: &[u8])
         requires pointer { pointer < vec_len self.old.row_of }
-        requires short { length words.now ≤ room_in (row_at self.old.row_of.items pointer) }
+        requires short { count ≤ room_in (row_at self.old.row_of.items pointer) }
+        requires bytes { length bytes.now ≡ 8 * count }
         ensures sized { vec_len self.new.row_of ≡ vec_len self.old.row_of }
-        ensures stored { stored_in self.new ≡ put (stored_in self.old) pointer (with_first (length words.now) (λ i. slice_index words.now i) (stored_in self.old pointer)) }
+        ensures stored { stored_in self.new ≡ put (stored_in self.old) pointer (with_first (length (words_of bytes.now)) (λ i. slice_index (words_of bytes.now) i) (stored_in self.old pointer)) }
     {
         let start = self.row(pointer).start as usize;
-        self.words[start..start + words.len()].copy_from_slice(words);
+        pack_bytes(bytes, &mut self.words[start..start + count as usize]);
     }
 }
 
@@ -131,17 +135,18 @@ fn next_room(count: u16, had: u16) -> u16
     }
 }
 
-/// A row of so many words follows, which begins with these; the others are zeros.
-fn add_row(words: &mut Vec<u64>, row: &[u64], room: u16)
-    requires long { length row.now ≤ room }
+/// A row of so many words follows, which begins with those of these bytes; the others are zeros.
+fn add_row(words: &mut Vec<u64>, count: u16, bytes: &[u8], room: u16)
+    requires long { count ≤ room }
+    requires bytes { length bytes.now ≡ 8 * count }
     requires room { vec_len words.old + room ≤ vec_capacity words.old }
     ensures len { vec_len words.new ≡ vec_len words.old + room }
     ensures room { vec_capacity words.old ≤ vec_capacity words.new }
     ensures before { (k : ℕ) → k < vec_len words.old → slice_index words.new.items k ≡ slice_index words.old.items k }
-    ensures row { (i : ℕ) → i < length row.now → slice_index words.new.items (vec_len words.old + i) ≡ slice_index row.now i }
-    ensures zeros { (k : ℕ) → vec_len words.old + length row.now ≤ k → slice_index words.new.items k ≡ 0 }
+    ensures row { (i : ℕ) → i < count → slice_index words.new.items (vec_len words.old + i) ≡ slice_index (words_of bytes.now) i }
+    ensures zeros { (k : ℕ) → vec_len words.old + count ≤ k → slice_index words.new.items k ≡ 0 }
 {
-    let end = words.len() + room as usize;
-    words.extend_from_slice(row).unwrap();
-    words.resize(end, 0).unwrap();
+    let start = words.len();
+    words.resize(start + room as usize, 0).unwrap();
+    pack_bytes(bytes, &mut words[start..start + count as usize]);
 }

@@ -1,13 +1,17 @@
 //! One place of the memory written.
 
-ghost use Rattle.std.specs.Prelude.{◌≡◌, ◌+◌, ◌*◌, ◌<◌, ◌≤◌, ◌/◌, ◌==◌, cond, Some, None, true, false};
+ghost use Rattle.std.specs.Prelude.{◌≡◌, ◌+◌, ◌*◌, ◌<◌, ◌≤◌, ◌/◌, ◌==◌, cond, Some, None, IfSome, is_some, true, false};
+ghost use Rattle.far_word.specs.declared.sizes.TheConstants.{MOST_LOGS};
 ghost use Rattle.far_core.specs.events.namings.Evicts.{with_kept};
 ghost use Rattle.far_core.specs.state.State.{State, put};
 ghost use Rattle.far_core.specs.state.Memory.{state_of};
+ghost use Rattle.far_core.specs.state.Stored.{RowsAre};
 
 use crate::event::Kind;
 use crate::memory::Memory;
+use crate::memory::stored_rows::StoredRows;
 use far_word::{CELLS, LOG_WORDS, Place};
+use std::mem;
 
 impl Memory {
     #[tactic(auto, unfolding(crate::specs::state::Memory::state_of))]
@@ -51,14 +55,14 @@ impl Memory {
     }
 
     #[tactic(auto, unfolding(crate::specs::state::Memory::state_of))]
-    pub(crate) fn hold(&mut self, pointer: usize, place: Option<Place>)
-        requires { pointer < CELLS * (state_of self.old).mutators }
-        ensures { state_of self.new ≡ record (state_of self.old) { held = put (state_of self.old).held pointer place } }
+    pub(crate) fn hold(&mut self, pointer: u16, place: Place)
+        requires pointer { pointer < CELLS * (state_of self.old).mutators }
+        requires log { place.log < MOST_LOGS }
+        requires inside { place.at < LOG_WORDS }
+        ensures { state_of self.new ≡ record (state_of self.old) { held = put (state_of self.old).held pointer (Some place) } }
     {
-        self.held[pointer] = place.is_some();
-        if let Some(place) = place {
-            self.places[pointer] = place;
-        }
+        self.held.set(pointer as usize);
+        self.places[pointer as usize] = place.log as u16 * LOG_WORDS + place.at;
     }
 
     #[tactic(auto, unfolding(crate::specs::state::Memory::state_of))]
@@ -66,7 +70,7 @@ impl Memory {
         requires { pointer < CELLS * (state_of self.old).mutators }
         ensures { state_of self.new ≡ record (state_of self.old) { soiled = put (state_of self.old).soiled pointer true } }
     {
-        self.soiled[pointer as usize] = true;
+        self.soiled.set(pointer as usize);
     }
 
     #[tactic(auto, unfolding(crate::specs::state::Memory::state_of))]
@@ -74,7 +78,7 @@ impl Memory {
         requires { at < LOG_WORDS * (state_of self.old).logs }
         ensures { state_of self.new ≡ record (state_of self.old) { word = put (state_of self.old).word at word } }
     {
-        self.words[at] = word;
+        self.words.set(at, word);
     }
 
     #[tactic(auto, unfolding(crate::specs::state::Memory::state_of))]
@@ -82,7 +86,7 @@ impl Memory {
         requires { at < LOG_WORDS * (state_of self.old).logs }
         ensures { state_of self.new ≡ record (state_of self.old) { starts = put (state_of self.old).starts at true } }
     {
-        self.starts[at] = true;
+        self.starts.set(at);
     }
 
     #[tactic(auto, unfolding(crate::specs::state::Memory::state_of))]
@@ -107,8 +111,8 @@ impl Memory {
         requires { log < (state_of self.old).logs }
         ensures { state_of self.new ≡ record (state_of self.old) { starts = λ a. cond (a / LOG_WORDS == log) false ((state_of self.old).starts a) } }
     {
-        let from = log as usize * LOG_WORDS as usize;
-        self.starts[from..from + LOG_WORDS as usize].fill(false);
+        self.starts
+            .clear_part(log as usize, LOG_WORDS as usize / 64);
     }
 
     #[tactic(auto, unfolding(crate::specs::state::Memory::state_of))]
@@ -168,8 +172,32 @@ impl Memory {
         requires inside { from + count ≤ LOG_WORDS * (state_of self.old).logs }
         ensures { state_of self.new ≡ record (state_of self.old) { stored = put (state_of self.old).stored pointer (with_kept (state_of self.old).word (state_of self.old).stored pointer from count) } }
     {
-        self.stored
-            .store(pointer, &self.words[from..from + count as usize]);
+        let whose = [pointer];
+        let bytes = &self.words.bytes[8 * from..8 * (from + count as usize)];
+        self.stored.note(&whose, bytes);
+        if let Some(rows) = &mut self.rows {
+            rows.store_bytes(pointer, count, bytes);
+        }
+    }
+
+    /// Rows of stored words are taken out; none are kept from then on.
+    #[tactic(auto, unfolding(crate::specs::state::Memory::state_of))]
+    pub(crate) fn take_rows(&mut self) -> Option<StoredRows>
+        ensures state { state_of self.new ≡ state_of self.old }
+        ensures kept { is_some result ≡ is_some self.old.rows }
+        ensures rows { IfSome result (λ rows. RowsAre (CELLS * (state_of self.old).mutators) (state_of self.old).stored rows) }
+    {
+        mem::replace(&mut self.rows, None)
+    }
+
+    /// Rows of stored words are kept from then on, if there are any.
+    #[tactic(auto, unfolding(crate::specs::state::Memory::state_of))]
+    pub(crate) fn put_rows(&mut self, rows: Option<StoredRows>)
+        requires { IfSome rows (λ rows. RowsAre (CELLS * (state_of self.old).mutators) (state_of self.old).stored rows) }
+        ensures state { state_of self.new ≡ state_of self.old }
+        ensures kept { is_some self.new.rows ≡ is_some rows }
+    {
+        self.rows = rows;
     }
 
     /// The owner holds nothing from now on.
@@ -178,8 +206,7 @@ impl Memory {
         requires { owner < (state_of self.old).mutators }
         ensures { state_of self.new ≡ record (state_of self.old) { held = λ p. cond (p / CELLS == owner) None ((state_of self.old).held p) } }
     {
-        let from = owner as usize * CELLS as usize;
-        self.held[from..from + CELLS as usize].fill(false);
+        self.held.clear_part(owner as usize, CELLS as usize / 64);
     }
 
     /// The owner has soiled nothing from now on.
@@ -188,7 +215,6 @@ impl Memory {
         requires { owner < (state_of self.old).mutators }
         ensures { state_of self.new ≡ record (state_of self.old) { soiled = λ p. cond (p / CELLS == owner) false ((state_of self.old).soiled p) } }
     {
-        let from = owner as usize * CELLS as usize;
-        self.soiled[from..from + CELLS as usize].fill(false);
+        self.soiled.clear_part(owner as usize, CELLS as usize / 64);
     }
 }

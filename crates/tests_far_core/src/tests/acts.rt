@@ -37,6 +37,16 @@ pub(super) enum Act {
     StoresPair([u64; 2]),
     /// The first object has these two words.
     HasPair([u64; 2]),
+    /// Owner 0 stores these bytes in the first object, from one on.
+    StoresBytes(u16, &'static [u8]),
+    /// The first object has these bytes, from one on.
+    HasBytes(u16, &'static [u8]),
+    /// The words from a place on have these bytes, from one on.
+    GetsBytes(Place, u16, &'static [u8]),
+    /// Owner 0 stores so many bytes in the first object, from one on, each of which tells its place there.
+    StoresTold(u16, u16),
+    /// The first object has so many bytes, from one on, that tell their places.
+    HasTold(u16, u16),
     /// So many words of 0 are put at a place.
     PutsZeros(Place, u16),
     /// So many words of these bytes are put there.

@@ -1,5 +1,8 @@
 //! Whole lists of events, scopes, bytes, shapes, laws.
 
+ghost use Rattle.std.specs.Prelude.{◌≡◌};
+ghost use Rattle.far_core.specs.state.CoreState.{core_state};
+
 use crate::tests::acts::Act::*;
 use crate::tests::acts::{Act, Play, SMALL, TWO_OWNERS};
 use crate::tests::peopled::{HEADER, NEAR, PEOPLED};
@@ -10,6 +13,7 @@ use far_core::{
     Core, Event, Kind, Reply, Shape, copies_are_taken, events_leave_others, jobs_stand_by_law,
     opening_is_start, steps_keep_views,
 };
+use far_word::Mark::Dropped;
 use far_word::Place;
 use std::alloc::Global;
 
@@ -47,7 +51,7 @@ const READ_SO: [Reply; 8] = [
 const READ: &[Act] = &[Cell(0, 0xc600_0000_0001_0008), Log(0, Kind::Open, 2)];
 
 fn reads_first(core: &mut Core, alloc: Global) -> bool {
-    runs_so(core, alloc, &FIRST_READ, &READ_SO) && does_all(core, READ)
+    core.keeps_stored() && runs_so(core, alloc, &FIRST_READ, &READ_SO) && does_all(core, READ)
 }
 
 fn is_read(alloc: Global) -> bool {
@@ -60,6 +64,163 @@ fn is_read(alloc: Global) -> bool {
 #[test]
 fn first_object_is_read(rt: HostRuntime) {
     assert!(rt; is_read(rt.alloc()));
+}
+
+/// In a core without stored words no naming is made that is given as data, and nothing changes by it; all other events are made.
+#[rattlefmt::skip]
+const UNNAMED: &[Act] = &[
+    Does(Put { log: 0, at: 0, word: HEADER }, Done),
+    Refuses(&[
+        Name { pointer: 0, old: 0, new: NEAR },
+        Name { pointer: 0, old: 0, new: 0 },
+        Name { pointer: 0, old: NEAR, new: 0 },
+        Name { pointer: u16::MAX, old: 0, new: NEAR },
+    ]),
+    May(Name { pointer: 0, old: 0, new: NEAR }, false),
+    Cell(0, 0),
+    Starts(Place { log: 0, at: 0 }, false),
+    WordAt(Place { log: 0, at: 0 }, HEADER),
+    Does(Adopt { owner: 0, pointer: 0 }, Refused),
+    Does(ReadEpoch { owner: 0 }, Epoch(0)),
+    Does(Open { owner: 0 }, Done),
+    Does(Close { owner: 0 }, Done),
+];
+
+// Where copiers may have jobs, a claim of an empty job is made and lost. Where none may, it is refused, and all else is as there.
+const CLAIMED: Event = Claim {
+    copier: 2,
+    job: 0,
+    old: 0x4000_1008_0000_0000,
+};
+
+const LOST: &[Act] = &[Leaves(CLAIMED, Word(0))];
+
+const UNCLAIMED: &[Act] = &[Refuses(&[CLAIMED])];
+
+#[rattlefmt::skip]
+const EMPTY_JOBS: &[Act] = &[
+    Refuses(&[
+        ReadLength { copier: 2 },
+        Read { copier: 2, index: 0 },
+        Write { copier: 2, index: 0 },
+        Finish { copier: 2 },
+        Offer { job: 0, pointer: 0, to: Place { log: 0, at: 2 } },
+    ]),
+    Leaves(PeekJob { copier: 2, job: 0 }, Word(0)),
+    Leaves(Collect { job: 0, old: 0x4000_1008_0000_0000 }, Word(0)),
+    Does(Advance { logs: 0 }, Epoch(1)),
+    Does(Look { owner: 0 }, Word(0)),
+    SeenClear(0, true),
+];
+
+fn claims(core: &mut Core, claim: &[Act]) -> bool {
+    !core.keeps_stored()
+        && does_all(core, UNNAMED)
+        && does_all(core, claim)
+        && does_all(core, EMPTY_JOBS)
+        && does_all(core, claim)
+}
+
+fn loses_a_claim(alloc: Global) -> bool {
+    match Core::without_stored(alloc, SMALL, true) {
+        Ok(mut core) => core.has_copiers() && claims(&mut core, LOST),
+        Err(_) => false,
+    }
+}
+
+fn refuses_claims(alloc: Global) -> bool {
+    match Core::alone(alloc, SMALL, true) {
+        Ok(mut core) => !core.has_copiers() && claims(&mut core, UNCLAIMED),
+        Err(_) => false,
+    }
+}
+
+/// The same of a whole list.
+const RUN_UNNAMED: [Event; 5] = [
+    Put {
+        log: 0,
+        at: 1,
+        word: 0,
+    },
+    Name {
+        pointer: 0,
+        old: 0,
+        new: NEAR,
+    },
+    Adopt {
+        owner: 0,
+        pointer: 0,
+    },
+    ReadEpoch { owner: 0 },
+    Open { owner: 0 },
+];
+
+const SO_UNNAMED: [Reply; 5] = [Done, Refused, Refused, Epoch(0), Done];
+
+/// Once the pointer is named by a call, its object is viewed, stored and loaded as in any core, and given up; to send it far is a
+/// naming.
+#[rattlefmt::skip]
+const NAMED_BY_CALL: &[Act] = &[
+    Cell(0, NEAR),
+    Starts(Place { log: 0, at: 0 }, true),
+    Log(0, Kind::Open, 2),
+    Does(Adopt { owner: 0, pointer: 0 }, Word(NEAR)),
+    Does(ReadEpoch { owner: 0 }, Epoch(0)),
+    Does(Open { owner: 0 }, Done),
+    Does(Pin { owner: 0, pointer: 0 }, Held(Place { log: 0, at: 0 })),
+    Does(Soil { owner: 0, pointer: 0 }, Word(0xc600_0000_0001_0008)),
+    Does(Store { owner: 0, pointer: 0, index: 0, word: 7 }, Done),
+    Does(Load { owner: 0, pointer: 0, index: 0 }, Word(7)),
+    HasBytes(0, &[7, 0, 0, 0, 0, 0, 0, 0]),
+    Does(Close { owner: 0 }, Done),
+    Does(Load { owner: 0, pointer: 0, index: 0 }, Refused),
+    Does(Ask { owner: 0, pointer: 0, mark: Dropped }, Word(0xc600_0000_0001_0008)),
+    Refuses(&[Name { pointer: 0, old: 0xce00_0000_0001_0008, new: 0 }]),
+];
+
+/// Whether a core without stored words is named by its call what another one, in the same state, tells may be named.
+fn names_by_call(kept: &mut Core, bare: &mut Core) -> bool
+    requires { core_state kept.old ≡ core_state bare.old }
+{
+    if kept.logs() == 0 || kept.kind(0) == Kind::Sealed || kept.tail(0) > 0 {
+        return false;
+    }
+    kept.put(0, 0, HEADER);
+    bare.put(0, 0, HEADER);
+    kept.may_name(0, 0, NEAR) && bare.name(0, 0, NEAR).is_ok()
+}
+
+/// The same of new cores, and what comes of it.
+fn is_named_by_call(alloc: Global) -> bool {
+    let Ok(mut kept) = Core::new(alloc, SMALL, true) else {
+        return false;
+    };
+    let Ok(mut bare) = Core::without_stored(alloc, SMALL, true) else {
+        return false;
+    };
+    names_by_call(&mut kept, &mut bare)
+        && !bare.keeps_stored()
+        && does_all(&mut bare, NAMED_BY_CALL)
+}
+
+fn is_not_told(alloc: Global) -> bool {
+    match Core::without_stored(alloc, SMALL, true) {
+        Ok(mut core) => !core.keeps_stored()
+            && does_all(&mut core, UNNAMED)
+            && runs_so(&mut core, alloc, &RUN_UNNAMED, &SO_UNNAMED)
+            && !core.keeps_stored(),
+        Err(_) => false,
+    }
+}
+
+#[test]
+fn no_naming_is_told_without_stored_words(rt: HostRuntime) {
+    assert!(rt; is_not_told(rt.alloc()) && is_named_by_call(rt.alloc()));
+}
+
+#[test]
+fn no_claim_is_made_alone(rt: HostRuntime) {
+    assert!(rt; loses_a_claim(rt.alloc()) && refuses_claims(rt.alloc()));
 }
 
 /// The cells that the people have, and no other that is used at the ends of their rows.

@@ -1,7 +1,8 @@
 //! A core on which a test is played, act by act.
 
 use crate::tests::acts::{Act, Play};
-use crate::tests::looks::{all_shown, shows};
+use crate::tests::bytes::does_bytes;
+use crate::tests::looks::all_shown;
 use crate::tests::own_calls::{called, may};
 use crate::tests::ranges::{
     copies_words, gets_words, has_pair, puts_words, puts_zeros, stores_at, stores_pair,
@@ -41,7 +42,7 @@ fn does(core: &mut Core, act: Act) -> bool {
         Act::PutsWords(place, bytes, count) => puts_words(core, place, bytes, count),
         Act::GetsWords(place, count, bytes) => gets_words(core, place, count, bytes),
         Act::CopiesWords(from, to, count) => copies_words(core, from, to, count),
-        _ => shows(core, act),
+        _ => does_bytes(core, act),
     }
 }
 

@@ -149,7 +149,7 @@ module _ (p new len : ℕ) (place : Place) where
     soiled = λ q a b. refl;
     book = λ ne. absurd (ne refl);
     copiers = λ c ne. same_copier;
-    rest = (refl, refl, refl);
+    rest = (refl, refl, refl, refl);
   }
 
   pub evicts_owed : NamingOwed p new (Evicts len place)

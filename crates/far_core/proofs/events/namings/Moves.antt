@@ -145,7 +145,7 @@ module _ (p new len ds : ℕ) (from to : Place) where
     soiled = λ q a b. refl;
     book = λ ne. absurd (ne refl);
     copiers = λ c ne. record { task = refl; length = refl; read = refl; written = refl };
-    rest = (refl, refl, refl);
+    rest = (refl, refl, refl, refl);
   }
 
   names_either : (s : State) (o : Option ℕ) → (after_move s p new len to o).cell p ≡ new

@@ -1,6 +1,6 @@
 //! One place of the jobs' rows read or written.
 
-ghost use Rattle.std.specs.Prelude.{◌≡◌, ◌+◌, ◌*◌, ◌<◌, ◌≤◌, true, false, Some, None, IfOk, is_some, slice_index};
+ghost use Rattle.std.specs.Prelude.{◌≡◌, ◌+◌, ◌*◌, ◌<◌, ◌≤◌, true, false, Some, None, IfOk, IfSome, is_some, slice_index};
 ghost use Rattle.std.specs.Vec.{vec_len};
 ghost use Rattle.far_core.specs.state.Memory.{copying_of};
 ghost use Rattle.far_core.specs.state.Opening.{no_copying};
@@ -14,20 +14,29 @@ use std::alloc::{AllocError, Global};
 
 #[tactic(auto, unfolding(crate::specs::state::Memory::copying_of))]
 impl Jobs {
-    /// No job, and no copier has one.
-    pub(crate) fn new(alloc: Global) -> Result<Jobs, AllocError>
-        ensures { IfOk result (λ jobs. copying_of jobs ≡ no_copying) }
+    /// No job, and no copier has one. Where none may, no memory is taken.
+    pub(crate) fn new(alloc: Global, has_copiers: bool) -> Result<Jobs, AllocError>
+        ensures { IfOk result (λ jobs. copying_of jobs ≡ record no_copying { has_copiers = has_copiers }) }
     {
+        let room = if has_copiers { COPIED } else { 0 };
         Ok(Jobs {
+            has_copiers,
             words: [0; JOBS as usize],
             since: [0; JOBS as usize],
             named: [false; JOBS as usize],
             tasks: [None; MOST_COPIERS as usize],
             lengths: [None; MOST_COPIERS as usize],
-            read: Vec::with_capacity(alloc, COPIED)?,
-            written: Vec::with_capacity(alloc, COPIED)?,
+            read: Vec::with_capacity(alloc, room)?,
+            written: Vec::with_capacity(alloc, room)?,
             touched: [0; MOST_COPIERS as usize],
         })
+    }
+
+    /// Whether copiers may have jobs.
+    pub(crate) fn has_copiers(&self) -> bool
+        ensures { result ≡ (copying_of self.now).has_copiers }
+    {
+        self.has_copiers
     }
 
     pub(crate) fn word(&self, job: u8) -> u64
@@ -73,7 +82,8 @@ impl Jobs {
     }
 
     pub(crate) fn task(&self, copier: u8) -> Option<Task>
-        ensures { result ≡ (copying_of self.now).task copier }
+        ensures is { result ≡ (copying_of self.now).task copier }
+        ensures has { IfSome result (λ _. (copying_of self.now).has_copiers ≡ true) }
     {
         self.tasks.get(copier as usize).copied().flatten()
     }
@@ -103,7 +113,8 @@ impl Jobs {
 
     /// The rows of words reach as far as a copier's, where nothing was written yet.
     pub(crate) fn reach(&mut self, copier: u8)
-        requires { copier < MOST_COPIERS }
+        requires copier { copier < MOST_COPIERS }
+        requires has { (copying_of self.old).has_copiers ≡ true }
         ensures state { copying_of self.new ≡ copying_of self.old }
         ensures read { copier * LOG_WORDS + LOG_WORDS ≤ vec_len self.new.read }
         ensures written { copier * LOG_WORDS + LOG_WORDS ≤ vec_len self.new.written }
@@ -113,7 +124,8 @@ impl Jobs {
     }
 
     fn reach_read(&mut self, copier: u8)
-        requires { copier < MOST_COPIERS }
+        requires copier { copier < MOST_COPIERS }
+        requires has { (copying_of self.old).has_copiers ≡ true }
         ensures state { copying_of self.new ≡ copying_of self.old }
         ensures read { copier * LOG_WORDS + LOG_WORDS ≤ vec_len self.new.read }
     {
@@ -124,7 +136,8 @@ impl Jobs {
     }
 
     fn reach_written(&mut self, copier: u8)
-        requires { copier < MOST_COPIERS }
+        requires copier { copier < MOST_COPIERS }
+        requires has { (copying_of self.old).has_copiers ≡ true }
         ensures state { copying_of self.new ≡ copying_of self.old }
         ensures written { copier * LOG_WORDS + LOG_WORDS ≤ vec_len self.new.written }
         ensures read { vec_len self.new.read ≡ vec_len self.old.read }
@@ -178,7 +191,8 @@ impl Jobs {
     }
 
     pub(crate) fn set_task(&mut self, copier: u8, task: Option<Task>)
-        requires { copier < MOST_COPIERS }
+        requires copier { copier < MOST_COPIERS }
+        requires has { IfSome task (λ _. (copying_of self.old).has_copiers ≡ true) }
         ensures { copying_of self.new ≡ record (copying_of self.old) { task = put (copying_of self.old).task copier task } }
     {
         self.tasks[copier as usize] = task;

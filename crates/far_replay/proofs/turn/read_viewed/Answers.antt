@@ -1,10 +1,14 @@
-use Rattle.std.proofs.Common.{◌≡◌, ◌+◌, ◌<◌, ℕ, get_or, ap, sym, ◌∙◌, arith}
-use Rattle.far_word.specs.Pointer.{read_of}
-use Rattle.far_replay.specs.Moment.{state_in}
+use Rattle.std.proofs.Common.{◌≡◌, ◌+◌, ◌≤◌, ◌∙◌, ℕ, List, ap, arith, length, length-take-le, take}
+use Rattle.std.specs.Prelude.{slice_range}
+use Rattle.far_word.proofs.ByteLaws.{length-bytes_of}
+use Rattle.far_core.specs.declared.machine.Core.{Core}
+use Rattle.far_core.specs.events.Step.{data_len, data_word}
+use Rattle.far_core.specs.state.CoreState.{core_state}
 use Rattle.far_core.specs.state.State.{State}
-use Rattle.far_core.specs.events.Step.{near_data, data_len}
+use Rattle.far_replay.specs.Moment.{state_in}
+use Rattle.far_replay.specs.Objects.{data_of}
 use Rattle.far_reply.specs.Reply.{Data}
-use Rattle.far_replay.proofs.Fronts.{read_range}
+use Rattle.far_replay.proofs.Fronts.{read_front}
 use Rattle.far_replay.proofs.turn.read_viewed.Goals as goal
 
 pub returns-clause-reply : goal.returns-clause-reply
@@ -13,8 +17,9 @@ returns-clause-reply c =
     let p : ℕ = c.args.access.pointer in
     let from : ℕ = c.args.access.from in
     let count : ℕ = c.args.access.count in
-    let word : (k : ℕ) → k < c.touched-count.result → get_or c.load_front.new.words k 0 ≡ s.word (near_data (read_of (s.cell p)) + (c.first.result + k)) = (λ k lt.
-    c.load_front.ensures k (omega (arith, c.touched-count.ensures))
-    ∙ ap (λ f. s.word (near_data (read_of (s.cell p)) + (f + k))) (sym c.first.ensures)) in
-    ap Data (read_range c.load_front.new.words c.unpack_front.new.bytes (λ i. s.word (near_data (read_of (s.cell p)) + i)) (data_len s p) from count _ _ _
-    c.first.ensures c.touched-count.ensures (omega arith) c.requires.viewed.inside (omega (arith, c.requires.viewed.inside, c.requires.viewed.most, c.touched-count.ensures)) c.unpack_front.ensures.front word)
+    let old : List ℕ = take count c.args.scratch.now.bytes in
+    let size : length old ≡ count = length-take-le count c.args.scratch.now.bytes (omega (arith, c.requires.viewed.most)) in
+    let inside : from + count ≤ length (data_of s p) = omega (arith, c.requires.viewed.inside, length-bytes_of (λ i. s.word (data_word s p i)) (data_len s p)) in
+    let read : c.load_bytes.new.bytes ≡ slice_range (data_of (core_state c.core_of.result.now) p) from (from + length old) = c.load_bytes.ensures.bytes in
+    ap Data (read_front (data_of s p) c.load_bytes.new.bytes _ from count (length old) size inside
+    (read ∙ ap (λ (core : Core). slice_range (data_of (core_state core) p) from (from + length old)) c.core_of.ensures))

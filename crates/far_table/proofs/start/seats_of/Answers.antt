@@ -14,7 +14,7 @@ deal_copiers-requires-clause-first g c = c.in_ok-table.ensures.first
 
 pub deal_copiers-requires-clause-there : goal.deal_copiers-requires-clause-there
 deal_copiers-requires-clause-there g c = let s = core_state c.args.plan.now.core in let h = g.D.Device.honest c.args.plan.now.device.value in
-    first_copier_there s h c.keeps_law.ensures.law c.nothing_is_past.ensures.past c.requires.honest
+    first_copier_there s h c.keeps_law.ensures.law c.nothing_is_past.ensures.past c.requires.copiers c.requires.honest
 
 pub deal_all-requires-clause-dealer : goal.deal_all-requires-clause-dealer
 deal_all-requires-clause-dealer g c = c.in_ok-copiers.ensures.dealer
@@ -24,7 +24,7 @@ deal_all-requires-clause-first g c = c.in_ok-copiers.ensures.left
 
 pub deal_all-requires-clause-there : goal.deal_all-requires-clause-there
 deal_all-requires-clause-there g c = let s = core_state c.args.plan.now.core in let h = g.D.Device.honest c.args.plan.now.device.value in
-    first_there s h c.keeps_law.ensures.law c.nothing_is_past.ensures.past c.requires.honest
+    first_there s h c.keeps_law.ensures.law c.nothing_is_past.ensures.past c.requires.copiers c.requires.honest
 
 pub new-requires-clause-dealer : goal.new-requires-clause-dealer
 new-requires-clause-dealer g c = c.in_ok-owners.ensures.dealer
@@ -34,7 +34,7 @@ new-requires-clause-view g c = (g.D.Device.honest c.args.plan.now.device.value, 
 
 pub new-requires-clause-stands : goal.new-requires-clause-stands
 new-requires-clause-stands g c = let s = core_state c.args.plan.now.core in let h = g.D.Device.honest c.args.plan.now.device.value in
-    rule_stands s h c.keeps_law.ensures.law c.nothing_is_past.ensures.past c.requires.honest _ (ap book_of c.in_ok-owners.ensures.left)
+    rule_stands s h c.keeps_law.ensures.law c.nothing_is_past.ensures.past c.requires.copiers c.requires.honest _ (ap book_of c.in_ok-owners.ensures.left)
 
 pub returns-clause-book : goal.returns-clause-book
 returns-clause-book g c = c.new.ensures.book ∙ ap book_of c.in_ok-owners.ensures.left
@@ -49,4 +49,4 @@ returns-clause-copiers g c = let s = core_state c.args.plan.now.core in
 
 pub returns-clause-starts : goal.returns-clause-starts
 returns-clause-starts g c = let s = core_state c.args.plan.now.core in let h = g.D.Device.honest c.args.plan.now.device.value in
-    subst (Starts s h) (sym (c.new.ensures.book ∙ ap book_of c.in_ok-owners.ensures.left)) (rule_starts s h c.keeps_law.ensures.law c.nothing_is_past.ensures.past c.requires.honest)
+    subst (Starts s h) (sym (c.new.ensures.book ∙ ap book_of c.in_ok-owners.ensures.left)) (rule_starts s h c.keeps_law.ensures.law c.nothing_is_past.ensures.past c.requires.copiers c.requires.honest)

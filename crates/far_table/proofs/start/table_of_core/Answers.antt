@@ -12,7 +12,7 @@ use Rattle.far_table.proofs.start.table_of_core.Goals as goal
 pub of_words-requires : goal.of_words-requires
 of_words-requires g c = let s = core_state c.args.plan.now.core in let h = g.D.Device.honest c.args.plan.now.device.value in
     subst (λ l. Running (opening l [] (Book (first_book s h)))) (sym (c.as_slice.ensures.value ∙ c.in_ok-words.ensures))
-    (opens s h (table s) c.keeps_law.ensures.law c.nothing_is_past.ensures.past (is_table s) c.requires.honest)
+    (opens s h (table s) c.keeps_law.ensures.law c.nothing_is_past.ensures.past c.requires.copiers (is_table s) c.requires.honest)
 
 pub returns-clause-dealer : goal.returns-clause-dealer
 returns-clause-dealer g c =

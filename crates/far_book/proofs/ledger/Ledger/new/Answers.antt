@@ -5,7 +5,7 @@ use Rattle.std.proofs.lemmas.Bool.{lt-ltb}
 use Rattle.far_book.proofs.region.Starts.{starts}
 
 pub returns-clause-notes : goal.returns-clause-notes
-returns-clause-notes c = starts c.args.shape c.requires _ record {
+returns-clause-notes c has = starts has c.args.shape c.requires _ record {
   current = refl;
   free = λ l few. c.remove.ensures l few ∙ ap (λ b. not (l == 0) && b) (c.below-free_logs.ensures l few);
   filled = c.in_ok-filled.ensures.items_if_clones_equal (λ y e. e);

@@ -4,10 +4,10 @@ use Rattle.far_core.proofs.JobPlaces.{task_lies}
 use Rattle.far_core.proofs.memory.Memory.finish.Goals as goal
 
 pub pack-requires : goal.pack-requires
-pack-requires c = (task_lies (state_of c.args.self.now) c.requires.law c.args.copier c.in-Some.task (sym c.task.ensures ∙ c.in-Some.is)).1
+pack-requires c = (task_lies (state_of c.args.self.now) c.requires.law c.args.copier c.in-Some.task (sym c.task.ensures.is ∙ c.in-Some.is)).1
 
 pub set_job-requires : goal.set_job-requires
-set_job-requires c = (task_lies (state_of c.args.self.now) c.requires.law c.args.copier c.in-Some.task (sym c.task.ensures ∙ c.in-Some.is)).0
+set_job-requires c = (task_lies (state_of c.args.self.now) c.requires.law c.args.copier c.in-Some.task (sym c.task.ensures.is ∙ c.in-Some.is)).0
 
 pub end_task-requires : goal.end_task-requires
-end_task-requires c = (task_lies (state_of c.args.self.now) c.requires.law c.args.copier c.in-Some.task (sym c.task.ensures ∙ c.in-Some.is)).1.1
+end_task-requires c = (task_lies (state_of c.args.self.now) c.requires.law c.args.copier c.in-Some.task (sym c.task.ensures.is ∙ c.in-Some.is)).1.1

@@ -1,10 +1,14 @@
-use Rattle.std.proofs.Common.{◌+◌, ◌-◌, ℕ, ap, arith}
+use Rattle.std.proofs.Common.{◌≡◌, ◌∙◌, ◌*◌, ◌<◌, ℕ, ap, arith, take}
+use Rattle.far_core.specs.events.Ranges.{with_row}
 use Rattle.far_core.specs.state.Memory.{state_of}
-use Rattle.far_core.proofs.PackedRows.{packed_written}
+use Rattle.far_core.specs.state.Words.{word_in}
+use Rattle.far_word.specs.Bytes.{packed_word}
+use Rattle.far_core.proofs.PackedRows.{packs_front}
+use Rattle.far_core.proofs.Rows.{row_same}
 use Rattle.far_core.proofs.memory.Memory.pack_words.Goals as goal
 
 pub returns : goal.returns
 unfolding state_of
 returns c = ap (λ (f : ℕ → ℕ). record (state_of c.args.self.now) { word = f })
-    (packed_written c.args.self.now.words _ c.pack_bytes.new.words c.args.from (c.args.from + c.args.count - c.args.from) c.deref_mut.ensures.value
-    c.args.bytes.now c.args.count c.pack_bytes.ensures c.requires.bytes (omega arith) (omega (arith, c.requires.words, c.args.self.now.words_sized, c.args.self.now.words.ok.0)))
+    (c.put.ensures.words ∙ row_same (word_in c.args.self.now.words) c.args.from c.args.count (packed_word (take (8 * c.args.count) c.args.bytes.now)) (packed_word c.args.bytes.now)
+    (λ i lt. packs_front c.args.bytes.now (8 * c.args.count) i (omega arith)))

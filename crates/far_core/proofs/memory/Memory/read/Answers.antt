@@ -5,11 +5,11 @@ use Rattle.far_core.proofs.memory.Memory.read.Goals as goal
 
 pub word-word-requires : goal.word-word-requires
 word-word-requires c =
-    let x = read_lies (state_of c.args.self.now) c.requires.law c.args.copier c.args.index c.requires.legal c.in-Some.task (sym c.task.ensures ∙ c.in-Some.is) in
+    let x = read_lies (state_of c.args.self.now) c.requires.law c.args.copier c.args.index c.requires.legal c.in-Some.task (sym c.task.ensures.is ∙ c.in-Some.is) in
     omega (arith, c.first_word.ensures, x.0)
 
 pub learn_word-requires-clause-copier : goal.learn_word-requires-clause-copier
-learn_word-requires-clause-copier c = (read_lies (state_of c.args.self.now) c.requires.law c.args.copier c.args.index c.requires.legal c.in-Some.task (sym c.task.ensures ∙ c.in-Some.is)).2
+learn_word-requires-clause-copier c = (read_lies (state_of c.args.self.now) c.requires.law c.args.copier c.args.index c.requires.legal c.in-Some.task (sym c.task.ensures.is ∙ c.in-Some.is)).2
 
 pub learn_word-requires-clause-index : goal.learn_word-requires-clause-index
-learn_word-requires-clause-index c = (read_lies (state_of c.args.self.now) c.requires.law c.args.copier c.args.index c.requires.legal c.in-Some.task (sym c.task.ensures ∙ c.in-Some.is)).1
+learn_word-requires-clause-index c = (read_lies (state_of c.args.self.now) c.requires.law c.args.copier c.args.index c.requires.legal c.in-Some.task (sym c.task.ensures.is ∙ c.in-Some.is)).1

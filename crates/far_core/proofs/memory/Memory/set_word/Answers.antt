@@ -1,9 +1,7 @@
-use Rattle.std.proofs.Common.{ℕ, ap, arith}
+use Rattle.std.proofs.Common.{ℕ, ap}
 use Rattle.far_core.specs.state.Memory.{state_of}
-use Rattle.far_core.proofs.Items.{item_put}
 use Rattle.far_core.proofs.memory.Memory.set_word.Goals as goal
 
 pub returns : goal.returns
 unfolding state_of
-returns c = ap (λ (f : ℕ → ℕ). record (state_of c.args.self.now) { word = f })
-    (item_put c.args.self.now.words.items c.args.at c.args.word 0 (omega (arith, c.requires, c.args.self.now.words_sized, c.args.self.now.words.ok.0)))
+returns c = ap (λ (f : ℕ → ℕ). record (state_of c.args.self.now) { word = f }) c.set.ensures.word

@@ -26,14 +26,14 @@ invariant_of-result g c =
       jobs_start s _ c.args.shape honest c.in-Ok.ensures.opening shared.ensures.starts.book,
     )
 
-pub new-requires-2-clause-start : goal.new-requires-2-clause-start
-new-requires-2-clause-start g c = seat_start (core_state c.in-Ok.core) _ c.args.shape (g.D.Device.honest c.of.result.value) c.in-Ok.ensures.opening c.in-Ok-share.ensures.starts.book
+pub new-requires-clause-start : goal.new-requires-clause-start
+new-requires-clause-start g c = seat_start (core_state c.in-Ok.core) _ c.args.shape (g.D.Device.honest c.of.result.value) c.in-Ok.ensures.opening c.in-Ok-share.ensures.starts.book
 
-pub new-requires-2-clause-honest : goal.new-requires-2-clause-honest
-new-requires-2-clause-honest g c = λ h. sym (ap g.D.Device.honest c.of.ensures) ∙ sym (ap (λ (t : State). t.honest) c.in-Ok-share.ensures.starts.book) ∙ h
+pub new-requires-clause-honest : goal.new-requires-clause-honest
+new-requires-clause-honest g c = λ h. sym (ap g.D.Device.honest c.of.ensures) ∙ sym (ap (λ (t : State). t.honest) c.in-Ok-share.ensures.starts.book) ∙ h
 
 pub share-requires : goal.share-requires
-share-requires g c = record { honest = λ p some. absurd (some (ap (λ (t : State). t.cell p) c.in-Ok.ensures.opening)) }
+share-requires g c = record { copiers = ap (λ (t : State). t.copying.has_copiers) c.in-Ok.ensures.opening; honest = λ p some. absurd (some (ap (λ (t : State). t.cell p) c.in-Ok.ensures.opening)) }
 
 pub returns-clause-core : goal.returns-clause-core
 returns-clause-core g c =

@@ -8,6 +8,7 @@ use Rattle.far_core.proofs.memory.jobs.Jobs.new.Goals as goal
 pub returns : goal.returns
 unfolding copying_of
 returns c = λ i. record {
+  has_copiers = c.args.has_copiers;
   word = λ q. row_of (replicate JOBS 0) JOBS 0 refl q i;
   since = λ q. row_of (replicate JOBS 0) JOBS 0 refl q i;
   named = λ q. row_of (replicate JOBS false) JOBS false refl q i;

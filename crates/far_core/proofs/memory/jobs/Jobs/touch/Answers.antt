@@ -14,6 +14,7 @@ invariant_of-self c =
       named_sized = jobs.named_sized;
       tasks_sized = jobs.tasks_sized;
       lengths_sized = jobs.lengths_sized;
+      tasked = jobs.tasked;
       read_within = jobs.read_within;
       read_room = jobs.read_room;
       written_within = jobs.written_within;

@@ -1,0 +1,156 @@
+-- What an event other than a naming does to what is stored: nothing. And a naming that sends nothing far.
+use Rattle.std.proofs.Common.{◌≡◌, ◌≢◌, ◌<◌, ℕ, Bool, List, length, true, false, cond, Option, Some, None, refl, sym, ap, subst, ◌∙◌, inl, inr}
+use Rattle.std.specs.Prelude.{◌⊎◌, ◌*◌, ◌||◌, not, IfSome}
+use Rattle.std.proofs.lemmas.Bool.{eq-eqb, ne_eqb, false≢true}
+use Rattle.std.proofs.lemmas.List.Folds.{list_all_at}
+use Rattle.std.proofs.Math.ListN.{get_or}
+use Rattle.std.specs.List.{list_all}
+use Rattle.far_word.specs.declared.job.Job.{Job}
+use Rattle.far_word.specs.declared.pointer.Place.{Place}
+use Rattle.far_word.specs.declared.pointer.PtrWord.{PtrWord}
+use Rattle.far_word.specs.declared.pointer.PtrWord.TheVariants.{Free, Near, Far}
+use Rattle.far_word.specs.Pointer.{read_of, view_place}
+use Rattle.far_core.specs.declared.event.Event.{Event}
+use Rattle.far_core.specs.declared.event.Event.TheVariants.{ReadEpoch, Open, Pin, Load, Store, Soil, Close, Adopt, Put, Name, See, Mark, Ask, Get, Clear, Advance, Look, Offer, PeekJob, SeeJob, Claim, ReadLength, Read, Write, Finish, Collect}
+use Rattle.far_core.specs.declared.event.Task.{Task}
+use Rattle.far_core.specs.declared.machine.Core.{Core}
+use Rattle.far_word.specs.declared.sizes.TheConstants.{CELLS}
+use Rattle.far_core.specs.declared.memory.stored_rows.StoredRows.{StoredRows}
+use Rattle.far_core.specs.events.Claim.{after_claim}
+use Rattle.far_core.specs.events.Finish.{after_finish}
+use Rattle.far_core.specs.events.Get.{after_get}
+use Rattle.far_core.specs.events.Name.{after_naming}
+use Rattle.far_core.specs.events.Naming.{naming_of}
+use Rattle.far_core.specs.events.Next.{next_state}
+use Rattle.far_core.specs.events.Offer.{after_offer}
+use Rattle.far_core.specs.events.Step.{after}
+use Rattle.far_core.specs.state.Kept.{is_naming, keeps_stored, tells, tells_all}
+use Rattle.far_core.specs.state.State.{State}
+use Rattle.far_core.specs.state.Stored.{RowsAre}
+use Rattle.far_core.proofs.MadeNamings.{ComesNear}
+use Rattle.far_core.proofs.Owing.{owed}
+
+either : (s t u : State) (b : Bool) → t.stored ≡ s.stored → u.stored ≡ s.stored → (cond b t u).stored ≡ s.stored
+either s t u true e f = e
+either s t u false e f = f
+
+got : (s : State) (l : ℕ) (free : Bool) → (after_get s l free).stored ≡ s.stored
+got s l true = refl
+got s l false = refl
+
+claimed_by : (s : State) (c j : ℕ) (o : Option Job) → (after_claim s c j o).stored ≡ s.stored
+claimed_by s c j None = refl
+claimed_by s c j (Some job) = refl
+
+finished_by : (s : State) (c : ℕ) (o : Option Task) → (after_finish s c o).stored ≡ s.stored
+finished_by s c None = refl
+finished_by s c (Some t) = refl
+
+offered_by : (s : State) (j p : ℕ) (to : Place) (o : Option PtrWord) → (after_offer s j p to o).stored ≡ s.stored
+offered_by s j p to None = refl
+offered_by s j p to (Some Free) = refl
+offered_by s j p to (Some (Near len ds from m)) = refl
+offered_by s j p to (Some (Far len ds m)) = refl
+
+pub not_naming : (s : State) (e : Event) → is_naming e ≡ false → (after s e).stored ≡ s.stored
+not_naming s (ReadEpoch m) h = refl
+not_naming s (Open m) h = refl
+not_naming s (Pin m p) h = refl
+not_naming s (Load m p i) h = refl
+not_naming s (Store m p i w) h = refl
+not_naming s (Soil m p) h = refl
+not_naming s (Close m) h = refl
+not_naming s (Adopt m p) h = refl
+not_naming s (Put l at w) h = refl
+not_naming s (Name p old new) h = absurd cc
+not_naming s (See p) h = refl
+not_naming s (Mark p) h = refl
+not_naming s (Ask m p k) h = refl
+not_naming s (Get l at free) h = got s l free
+not_naming s (Clear p) h = refl
+not_naming s (Advance logs) h = refl
+not_naming s (Look m) h = refl
+not_naming s (Offer j p to) h = offered_by s j p to (read_of (s.cell p))
+not_naming s (PeekJob c j) h = refl
+not_naming s (SeeJob j) h = refl
+not_naming s (Claim c j old) h = either s _ s _ (claimed_by s c j _) refl
+not_naming s (ReadLength c) h = refl
+not_naming s (Read c i) h = refl
+not_naming s (Write c i) h = refl
+not_naming s (Finish c) h = finished_by s c (s.copying.task c)
+not_naming s (Collect j old) h = either s _ s _ refl refl
+
+pub next_stored : (s : State) (e : Event) → is_naming e ≡ false → (next_state s e).stored ≡ s.stored
+unfolding next_state
+next_stored s e h = not_naming s e h
+
+-- a naming whose word isn't found changes nothing, and one that finds it does what its form says
+pub name_lost : (s : State) (p old new : ℕ) → s.cell p ≢ old → (next_state s (Name p old new)).stored ≡ s.stored
+unfolding next_state
+name_lost s p old new ne = ap (λ (b : Bool). (cond b (after_naming s p new (naming_of (read_of old) (read_of new))) s).stored) (ne_eqb (s.cell p) old ne)
+
+pub name_won : (s : State) (p old new : ℕ) → s.cell p ≡ old → next_state s (Name p old new) ≡ after_naming s p new (naming_of (read_of old) (read_of new))
+unfolding next_state
+name_won s p old new e = ap (λ (b : Bool). cond b (after_naming s p new (naming_of (read_of old) (read_of new))) s) (eq-eqb (s.cell p) old e)
+
+-- what comes near stores nothing
+pub near_stored : (s t : State) (p new : ℕ) (place : Place) → ComesNear s p new place t → t.stored ≡ s.stored
+near_stored s t p new place came = elim came.where_to [
+  | inl takes ↦ ap (λ (u : State). u.stored) takes.after
+  | inr (inl stays) ↦ ap (λ (u : State). u.stored) stays.after
+  | inr (inr named) ↦ ap (λ (u : State). u.stored) named.after
+]
+
+pub rows_stay : (n : ℕ) (f g : ℕ → ℕ → ℕ) (rows : StoredRows) → g ≡ f → RowsAre n f rows → RowsAre n g rows
+rows_stay n f g rows e are = subst (λ h. RowsAre n h rows) (sym e) are
+
+-- no event changes how many owners there are
+pub next_mutators : (s : State) (e : Event) → (next_state s e).mutators ≡ s.mutators
+unfolding next_state
+next_mutators s e = ((owed e).within s).rest.0
+
+-- rows that are right for the next state are right for what is the next state
+pub rows_next : (o : Option StoredRows) (s t : State) (e : Event) → t ≡ next_state s e → IfSome o (λ rows. RowsAre (CELLS * s.mutators) (next_state s e).stored rows) → IfSome o (λ rows. RowsAre (CELLS * t.mutators) t.stored rows)
+rows_next None s t e is are = tt
+rows_next (Some rows) s t e is are = subst (λ (u : State). RowsAre (CELLS * u.mutators) u.stored rows) (sym is) (subst (λ (n : ℕ). RowsAre (CELLS * n) (next_state s e).stored rows) (sym (next_mutators s e)) are)
+
+-- what names
+pub name_of : (e : Event) → is_naming e ≡ true → (p old new : ℕ) × (e ≡ Name p old new)
+name_of (ReadEpoch m) h = absurd (false≢true h)
+name_of (Open m) h = absurd (false≢true h)
+name_of (Pin m p) h = absurd (false≢true h)
+name_of (Load m p i) h = absurd (false≢true h)
+name_of (Store m p i w) h = absurd (false≢true h)
+name_of (Soil m p) h = absurd (false≢true h)
+name_of (Close m) h = absurd (false≢true h)
+name_of (Adopt m p) h = absurd (false≢true h)
+name_of (Put l at w) h = absurd (false≢true h)
+name_of (Name p old new) h = (p, old, new, refl)
+name_of (See p) h = absurd (false≢true h)
+name_of (Mark p) h = absurd (false≢true h)
+name_of (Ask m p k) h = absurd (false≢true h)
+name_of (Get l at free) h = absurd (false≢true h)
+name_of (Clear p) h = absurd (false≢true h)
+name_of (Advance logs) h = absurd (false≢true h)
+name_of (Look m) h = absurd (false≢true h)
+name_of (Offer j p to) h = absurd (false≢true h)
+name_of (PeekJob c j) h = absurd (false≢true h)
+name_of (SeeJob j) h = absurd (false≢true h)
+name_of (Claim c j old) h = absurd (false≢true h)
+name_of (ReadLength c) h = absurd (false≢true h)
+name_of (Read c i) h = absurd (false≢true h)
+name_of (Write c i) h = absurd (false≢true h)
+name_of (Finish c) h = absurd (false≢true h)
+name_of (Collect j old) h = absurd (false≢true h)
+
+all_at : {all : Bool} (b : Bool) → (b ≡ false → all ≡ false) → all ≡ true → b ≡ true
+all_at true f h = refl
+all_at false f h = absurd (false≢true (sym (f refl) ∙ h))
+
+-- a core that tells each event of a list tells the one of any place in it, as long as what it keeps is the same
+told_at : (b : Bool) (es : List Event) (i : ℕ) → i < length es → (b || list_all (λ e. not (is_naming e)) es) ≡ true → (b || not (is_naming (get_or es i (ReadEpoch 0)))) ≡ true
+told_at true es i lt h = refl
+told_at false es i lt h = all_at (not (is_naming (get_or es i (ReadEpoch 0)))) (list_all_at (λ e. not (is_naming e)) es i (ReadEpoch 0) lt) h
+
+pub told_in : (core now : Core) (es : List Event) (i : ℕ) → i < length es → tells_all core es ≡ true → keeps_stored now ≡ keeps_stored core → tells now (get_or es i (ReadEpoch 0)) ≡ true
+told_in core now es i lt h kept = ap (λ (b : Bool). b || not (is_naming (get_or es i (ReadEpoch 0)))) kept ∙ told_at (keeps_stored core) es i lt h

@@ -1,0 +1,5 @@
+use Rattle.std.proofs.Common.{◌≡◌, ◌∙◌, ◌+◌, ◌-◌, ◌*◌, ◌/◌, ◌<◌, ◌≤◌, ◌^◌, ℕ, List, ap, arith, get_or, length, sym}
+use Rattle.far_core.proofs.machine.Core.get_bytes.Goals as goal
+
+pub returns-clause-legal : goal.returns-clause-legal
+returns-clause-legal c = λ k lt. (c.requires.log, omega (arith, lt, c.requires.inside), tt)
