@@ -48,6 +48,7 @@ mod whole;
 mod words;
 
 use crate::book::words::near_word;
+use crate::counts::Counts;
 use crate::home::Home;
 use crate::ledger::Ledger;
 use crate::log_rows::LogRows;
@@ -71,6 +72,7 @@ pub struct Book<N: Near + Drop, D: Device + Drop> {
     ledger: Ledger,
     // By way of it the bytes of objects go far and come back; it has room for the longest.
     buffer: Vec<u8>,
+    counts: Counts,
 }
 
 impl<N: Near + Drop, D: Device + Drop> Model for Book<N, D> {
@@ -112,6 +114,7 @@ impl<N: Near + Drop, D: Device + Drop> Book<N, D> {
             alloc,
             ledger,
             buffer,
+            counts: Counts::none(),
         })
     }
 
@@ -121,6 +124,18 @@ impl<N: Near + Drop, D: Device + Drop> Book<N, D> {
         ensures range { is_shape result ≡ true }
     {
         self.near.shape()
+    }
+
+    /// What the book has done since it was made.
+    pub fn counts(&self) -> Counts {
+        self.counts
+    }
+
+    /// How many calls of the device have answered that it failed, modulo 2^64.
+    pub fn faults(&self) -> u64
+        ensures { result ≡ D.faults self.now.device }
+    {
+        self.device.faults()
     }
 
     /// An empty list with room for `count` elements, from the book's own allocator. Refused [`Refused::Memory`] alone.

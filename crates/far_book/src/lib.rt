@@ -4,6 +4,7 @@
 #![tactic(auto)]
 
 mod book;
+mod counts;
 mod home;
 mod jobs;
 mod laws;
@@ -14,6 +15,7 @@ mod number_set;
 mod order;
 
 pub use book::Book;
+pub use counts::Counts;
 pub use far_hand::{Beset, Near, Plain};
 pub use home::Home;
 pub use laws::{

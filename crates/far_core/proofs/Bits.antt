@@ -1,5 +1,5 @@
 -- Rows of bits: one is set, one is unset, a part is cleared.
-use Rattle.std.proofs.Common.{◌≡◌, ◌≢◌, ℕ, ◌/◌, ◌%◌, ◌*◌, ◌^◌, ◌-◌, ◌+◌, ◌<◌, ◌≤◌, ◌∙◌, Bool, true, false, cond, nat_eq, arith, ap, sym, refl, inl, inr, List, length, get_or, set, w64}
+use Rattle.std.proofs.Common.{◌≡◌, ◌≢◌, ℕ, ◌/◌, ◌%◌, ◌*◌, ◌^◌, ◌-◌, ◌<◌, ◌≤◌, ◌∙◌, Bool, true, false, cond, nat_eq, arith, ap, sym, refl, inl, inr, List, length, get_or, set, w64}
 use Rattle.std.specs.Prelude.{◌==◌, bit_and, bit_or}
 use Rattle.std.specs.Int.{bit_at}
 use Rattle.std.specs.Vec.{vec_len}

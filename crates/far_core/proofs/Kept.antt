@@ -1,17 +1,19 @@
 -- What an event other than a naming does to what is stored: nothing. And a naming that sends nothing far.
 use Rattle.std.proofs.Common.{◌≡◌, ◌≢◌, ◌<◌, ℕ, Bool, List, length, true, false, cond, Option, Some, None, refl, sym, ap, subst, ◌∙◌, inl, inr}
-use Rattle.std.specs.Prelude.{◌⊎◌, ◌*◌, ◌||◌, not, IfSome}
-use Rattle.std.proofs.lemmas.Bool.{eq-eqb, ne_eqb, false≢true}
+use Rattle.std.specs.Prelude.{◌*◌, ◌||◌, not}
+use Rattle.std.proofs.lemmas.Bool.{cond_both, eq-eqb, ne_eqb, false≢true}
 use Rattle.std.proofs.lemmas.List.Folds.{list_all_at}
 use Rattle.std.proofs.Math.ListN.{get_or}
 use Rattle.std.specs.List.{list_all}
+use Rattle.std.specs.Option.{ForSome}
 use Rattle.far_word.specs.declared.job.Job.{Job}
 use Rattle.far_word.specs.declared.pointer.Place.{Place}
 use Rattle.far_word.specs.declared.pointer.PtrWord.{PtrWord}
 use Rattle.far_word.specs.declared.pointer.PtrWord.TheVariants.{Free, Near, Far}
-use Rattle.far_word.specs.Pointer.{read_of, view_place}
+use Rattle.far_word.specs.Pointer.{read_of}
 use Rattle.far_core.specs.declared.event.Event.{Event}
 use Rattle.far_core.specs.declared.event.Event.TheVariants.{ReadEpoch, Open, Pin, Load, Store, Soil, Close, Adopt, Put, Name, See, Mark, Ask, Get, Clear, Advance, Look, Offer, PeekJob, SeeJob, Claim, ReadLength, Read, Write, Finish, Collect}
+use Rattle.far_core.specs.declared.event.Reply.{Reply}
 use Rattle.far_core.specs.declared.event.Task.{Task}
 use Rattle.far_core.specs.declared.machine.Core.{Core}
 use Rattle.far_word.specs.declared.sizes.TheConstants.{CELLS}
@@ -23,7 +25,7 @@ use Rattle.far_core.specs.events.Name.{after_naming}
 use Rattle.far_core.specs.events.Naming.{naming_of}
 use Rattle.far_core.specs.events.Next.{next_state}
 use Rattle.far_core.specs.events.Offer.{after_offer}
-use Rattle.far_core.specs.events.Step.{after}
+use Rattle.far_core.specs.events.Step.{after, is_legal, step_of}
 use Rattle.far_core.specs.state.Kept.{is_naming, keeps_stored, tells, tells_all}
 use Rattle.far_core.specs.state.State.{State}
 use Rattle.far_core.specs.state.Stored.{RowsAre}
@@ -109,39 +111,53 @@ pub next_mutators : (s : State) (e : Event) → (next_state s e).mutators ≡ s.
 unfolding next_state
 next_mutators s e = ((owed e).within s).rest.0
 
--- rows that are right for the next state are right for what is the next state
-pub rows_next : (o : Option StoredRows) (s t : State) (e : Event) → t ≡ next_state s e → IfSome o (λ rows. RowsAre (CELLS * s.mutators) (next_state s e).stored rows) → IfSome o (λ rows. RowsAre (CELLS * t.mutators) t.stored rows)
-rows_next None s t e is are = tt
-rows_next (Some rows) s t e is are = subst (λ (u : State). RowsAre (CELLS * u.mutators) u.stored rows) (sym is) (subst (λ (n : ℕ). RowsAre (CELLS * n) (next_state s e).stored rows) (sym (next_mutators s e)) are)
+-- ---- what rows are kept beside a state
+abbrev AreOf : State → StoredRows → Type 0
+AreOf s rows = RowsAre (CELLS * s.mutators) s.stored rows
 
--- what names
-pub name_of : (e : Event) → is_naming e ≡ true → (p old new : ℕ) × (e ≡ Name p old new)
-name_of (ReadEpoch m) h = absurd (false≢true h)
-name_of (Open m) h = absurd (false≢true h)
-name_of (Pin m p) h = absurd (false≢true h)
-name_of (Load m p i) h = absurd (false≢true h)
-name_of (Store m p i w) h = absurd (false≢true h)
-name_of (Soil m p) h = absurd (false≢true h)
-name_of (Close m) h = absurd (false≢true h)
-name_of (Adopt m p) h = absurd (false≢true h)
-name_of (Put l at w) h = absurd (false≢true h)
-name_of (Name p old new) h = (p, old, new, refl)
-name_of (See p) h = absurd (false≢true h)
-name_of (Mark p) h = absurd (false≢true h)
-name_of (Ask m p k) h = absurd (false≢true h)
-name_of (Get l at free) h = absurd (false≢true h)
-name_of (Clear p) h = absurd (false≢true h)
-name_of (Advance logs) h = absurd (false≢true h)
-name_of (Look m) h = absurd (false≢true h)
-name_of (Offer j p to) h = absurd (false≢true h)
-name_of (PeekJob c j) h = absurd (false≢true h)
-name_of (SeeJob j) h = absurd (false≢true h)
-name_of (Claim c j old) h = absurd (false≢true h)
-name_of (ReadLength c) h = absurd (false≢true h)
-name_of (Read c i) h = absurd (false≢true h)
-name_of (Write c i) h = absurd (false≢true h)
-name_of (Finish c) h = absurd (false≢true h)
-name_of (Collect j old) h = absurd (false≢true h)
+-- they stay right where nothing is stored
+pub rows_same : (o : Option StoredRows) (s t : State) → t.stored ≡ s.stored → t.mutators ≡ s.mutators → ForSome o (λ rows. AreOf s rows) → ForSome o (λ rows. AreOf t rows)
+rows_same o s t stored mutators are =
+    λ rows is. subst (λ (n : ℕ). RowsAre (CELLS * n) t.stored rows) (sym mutators) (rows_stay (CELLS * s.mutators) s.stored t.stored rows stored (are rows is))
+
+pub rows_after : (o : Option StoredRows) (s t : State) (e : Event) → t ≡ next_state s e → is_naming e ≡ false → ForSome o (λ rows. AreOf s rows) → ForSome o (λ rows. AreOf t rows)
+rows_after o s t e is other are = rows_same o s t (ap (λ (u : State). u.stored) is ∙ next_stored s e other) (ap (λ (u : State). u.mutators) is ∙ next_mutators s e) are
+
+step_stored : (s : State) (e : Event) → is_naming e ≡ false → ((step_of s e).0.stored ≡ s.stored) × ((step_of s e).0.mutators ≡ s.mutators)
+step_stored s e other = cond_both (is_legal s e) _ _ (λ (x : State × Reply). (x.0.stored ≡ s.stored) × (x.0.mutators ≡ s.mutators)) (λ _. (not_naming s e other, ((owed e).within s).rest.0)) (λ _. (refl, refl))
+
+pub rows_stepped : (o : Option StoredRows) (s t : State) (r : Reply) (e : Event) → (t, r) ≡ step_of s e → is_naming e ≡ false → ForSome o (λ rows. AreOf s rows) → ForSome o (λ rows. AreOf t rows)
+rows_stepped o s t r e is other are =
+    let both = step_stored s e other in
+    rows_same o s t (ap (λ (x : State × Reply). x.0.stored) is ∙ both.0) (ap (λ (x : State × Reply). x.0.mutators) is ∙ both.1) are
+
+-- and those of an object that a naming sends far were stored
+abbrev some_of : StoredRows → Option StoredRows → StoredRows
+some_of d None = d
+some_of d (Some x) = x
+
+pub rows_named : (o : Option StoredRows) (s t : State) (e : Event) → t ≡ next_state s e → ForSome o (λ rows. RowsAre (CELLS * s.mutators) (next_state s e).stored rows) → ForSome o (λ rows. AreOf t rows)
+rows_named o s t e is are =
+    let n : t.mutators ≡ s.mutators = ap (λ (u : State). u.mutators) is ∙ next_mutators s e in
+    λ rows same. subst (λ (m : ℕ). RowsAre (CELLS * m) t.stored rows) (sym n) (rows_stay (CELLS * s.mutators) (next_state s e).stored t.stored rows (ap (λ (u : State). u.stored) is) (are rows same))
+
+pub some_is : (P : StoredRows → Type 0) (rows : StoredRows) → P rows → ForSome (Some rows) P
+some_is P rows are = λ x same. subst P (ap (some_of rows) same) are
+
+-- ---- of which events a core tells
+or_true : (b : Bool) → (b || true) ≡ true
+or_true true = refl
+or_true false = refl
+
+or_false : (b : Bool) → (b || false) ≡ b
+or_false true = refl
+or_false false = refl
+
+pub tells_other : (core : Core) (e : Event) → is_naming e ≡ false → tells core e ≡ true
+tells_other core e other = ap (λ (b : Bool). keeps_stored core || not b) other ∙ or_true (keeps_stored core)
+
+pub tells_naming : (core : Core) (e : Event) → is_naming e ≡ true → tells core e ≡ keeps_stored core
+tells_naming core e naming = ap (λ (b : Bool). keeps_stored core || not b) naming ∙ or_false (keeps_stored core)
 
 all_at : {all : Bool} (b : Bool) → (b ≡ false → all ≡ false) → all ≡ true → b ≡ true
 all_at true f h = refl

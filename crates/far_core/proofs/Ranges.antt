@@ -21,7 +21,8 @@ use Rattle.far_core.specs.state.CoreState.{core_state}
 use Rattle.far_core.specs.state.Law.{Law}
 use Rattle.far_core.specs.state.Memory.{state_of}
 use Rattle.far_core.specs.state.State.{State, addr, put}
-use Rattle.far_core.proofs.Calls.{store_legal, word_behind}
+use Rattle.far_core.proofs.Kept.{rows_after}
+use Rattle.far_core.proofs.Calls.{store_legal, word_behind, next_is_after}
 use Rattle.far_core.proofs.Owing.{is_test, keeps}
 use Rattle.far_core.proofs.PackedRows.{copy_first}
 use Rattle.far_core.proofs.Rows.{row_first, row_in, row_none, row_out}
@@ -206,4 +207,12 @@ module _ (c : Core) (l at w : ℕ) (wide : w < 2 ^ 64) (legal : Legal (core_stat
       (put_there c.memory.words (l * LOG_WORDS + at) w wide (omega (arith, legal.0, legal.3, c.memory.words_sized)))
 
   pub core_put : (d : Core) × (core_state d ≡ after (core_state c) (Put l at w))
-  core_put = (record { memory = memory_put; law = subst Law (sym put_is) (keeps (core_state c) (Put l at w) c.law wide legal) }, put_is)
+  core_put = (
+    record {
+      memory = memory_put;
+      rows = c.rows;
+      law = subst Law (sym put_is) (keeps (core_state c) (Put l at w) c.law wide legal);
+      rows_are = rows_after c.rows (state_of c.memory) (state_of memory_put) (Put l at w) (put_is ∙ sym (next_is_after (state_of c.memory) (Put l at w))) refl c.rows_are;
+    },
+    put_is,
+  )

@@ -84,3 +84,10 @@ runs_more s [] (q ∷ rs) us e r t u h w k = absurd h
 runs_more s (d ∷ es) [] us e r t u h w k = absurd h
 runs_more s (d ∷ es) (q ∷ rs) [] e r t u h w k = absurd h
 runs_more s (d ∷ es) (q ∷ rs) (v ∷ us) e r t u h w k = (w.0, runs_more v es rs us e r t u h.1 w.1 k)
+
+-- a step by what is known of its event
+pub step_made : (s t : State) (r : Reply) (e : Event) → is_legal s e ≡ true → t ≡ after s e → r ≡ answer s e → (t, r) ≡ step_of s e
+step_made s t r e legal is says = (λ i. (is i, says i)) ∙ ap (λ (b : Bool). cond b (after s e, answer s e) (s, Refused)) (sym legal)
+
+pub step_not : (s : State) (e : Event) → Law s → ¬ (Legal s e) → (s, Refused) ≡ step_of s e
+step_not s e law illegal = ap (λ (b : Bool). cond b (after s e, answer s e) (s, Refused)) (sym (false_from_ne_true (is_legal s e) (λ h. illegal (is_fact s e law h))))

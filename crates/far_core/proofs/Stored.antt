@@ -1,14 +1,10 @@
 -- What is stored, by the list of what was stored.
-use Rattle.std.proofs.Common.{◌≡◌, ℕ, ◌+◌, ◌*◌, ◌<◌, ◌≤◌, ◌≢◌, ◌∙◌, arith, ap, sym, inl, inr, refl, List, [], ◌∷◌, length, get_or}
-use Rattle.std.specs.Prelude.{slice_range}
-use Rattle.std.proofs.lemmas.Bool.{cases_eq, cases_lt}
+use Rattle.std.proofs.Common.{◌≡◌, ℕ, ◌<◌, ◌≤◌, ◌∙◌, arith, refl, List, [], ◌∷◌, length, get_or}
 use Rattle.far_word.specs.declared.sizes.TheConstants.{LOG_WORDS}
-use Rattle.far_core.specs.events.namings.Evicts.{with_kept}
 use Rattle.far_core.specs.state.Rows.{with_first}
-use Rattle.far_core.specs.state.State.{put}
 use Rattle.far_core.specs.state.Stored.{StoredEnds, stored_by}
 use Rattle.far_core.proofs.Put.{put_both}
-use Rattle.far_core.proofs.StoredRows.{beyond, part_kept}
+use Rattle.far_core.proofs.StoredRows.{beyond}
 
 -- at first nothing is stored
 pub none_ends : (pointers : ℕ) → StoredEnds pointers []

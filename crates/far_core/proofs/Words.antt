@@ -1,16 +1,15 @@
 -- Words as bytes.
-use Rattle.std.proofs.Common.{◌≡◌, ◌≢◌, ℕ, zero, suc, ◌+◌, ◌-◌, ◌*◌, ◌/◌, ◌%◌, ◌^◌, ◌<◌, ◌≤◌, ◌⊎◌, ◌∙◌, arith, ap, sym, refl, inl, inr, List, ◌++◌, cond, length, take, drop, get_or}
+use Rattle.std.proofs.Common.{◌≡◌, ℕ, zero, suc, ◌+◌, ◌-◌, ◌*◌, ◌/◌, ◌%◌, ◌^◌, ◌<◌, ◌≤◌, ◌⊎◌, ◌∙◌, arith, ap, sym, refl, inl, inr, List, ◌++◌, cond, length, take, drop, get_or}
 use Rattle.std.specs.Prelude.{replicate, slice_range}
 use Rattle.std.proofs.lemmas.Bool.{cases_lt, cases_eq, eq-eqb}
 use Rattle.std.specs.Int.{bytes_low_first}
-use Rattle.std.proofs.lemmas.List.{get_or_past, get_or-take, get_or-drop, get_or_append_left, get_or-append_right, get_or-replicate, length-append, length-replicate, length-take-le, length-drop, with_items_is, ext_get_or, take_at}
+use Rattle.std.proofs.lemmas.List.{get_or_past, get_or-take, get_or-drop, get_or_append_left, get_or-append_right, length-append, length-replicate, length-take-le, length-drop, with_items_is, ext_get_or, take_at}
 use Rattle.std.specs.Vec.{vec_len, with_items}
 use Rattle.std.specs.declared.vec.Vec.{Vec}
 use lib.Pow.{pow_mono}
 use mathlib.Core.Path.{fun_ext}
 use borrow.Rule.Slice.PartMut.{put_mid, mid_of}
 use Rattle.far_word.specs.Bytes.{byte_at, bytes_of, packed_word, word_at, words_of, with_word}
-use Rattle.far_word.specs.Sizes.{words_for}
 use Rattle.far_word.proofs.WordBytes.{length-rest, write_whole}
 use Rattle.far_word.proofs.ByteLaws.{packs_back, bytes_of-get, bytes_of-words_of, length-bytes_of, length-words_of, words_of-get, read_written, read_other, with_word-get, length-with_word}
 use Rattle.far_core.specs.events.Ranges.{with_copy, with_row}

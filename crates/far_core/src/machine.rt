@@ -1,7 +1,11 @@
 //! The core as its callers hold it.
 
+ghost use Rattle.std.specs.Prelude.{◌*◌};
+ghost use Rattle.std.specs.Option.{ForSome};
+ghost use Rattle.far_word.specs.declared.sizes.TheConstants.{CELLS};
 ghost use Rattle.far_core.specs.state.Law.{Law};
 ghost use Rattle.far_core.specs.state.Memory.{state_of};
+ghost use Rattle.far_core.specs.state.Stored.{RowsAre};
 
 mod calls;
 pub mod laws;
@@ -10,13 +14,17 @@ mod opening;
 mod ranges;
 
 use crate::memory::Memory;
+use crate::memory::stored_rows::StoredRows;
 use std::fmt;
 
 /// A core: shared words and what each owner and the book know of them, as plain data that keeps the law.
 #[derive(Drop)]
 pub struct Core {
     pub(crate) memory: Memory,
+    // The words that are stored, where they are kept to be read: only a naming changes them.
+    pub(crate) rows: Option<StoredRows>,
     ghost law: { Law (state_of memory) },
+    ghost rows_are: { ForSome rows (λ rows. RowsAre (CELLS * (state_of memory).mutators) (state_of memory).stored rows) },
 }
 
 impl fmt::Debug for Core {

@@ -1,9 +1,8 @@
 //! The words of a core and what each seat knows of them, as plain data.
 
 ghost use Rattle.std.specs.Prelude.{◌≡◌, ◌*◌, ◌<◌, ◌≤◌};
-ghost use Rattle.std.specs.Option.{ForSome};
 ghost use Rattle.std.specs.Vec.{vec_len};
-ghost use Rattle.far_core.specs.state.Stored.{RowsAre, StoredEnds, stored_by};
+ghost use Rattle.far_core.specs.state.Stored.{StoredEnds};
 ghost use Rattle.far_word.specs.declared.sizes.TheConstants.{CELLS, LOG_WORDS, MOST_LOGS, MOST_MUTATORS};
 
 pub(crate) mod bits;
@@ -26,7 +25,6 @@ use crate::event::Kind;
 use crate::memory::bits::Bits;
 use crate::memory::jobs::Jobs;
 use crate::memory::stored::Stored;
-use crate::memory::stored_rows::StoredRows;
 use crate::memory::words::Words;
 
 /// The words and views. All its memory is taken when it is made.
@@ -53,10 +51,8 @@ pub(crate) struct Memory {
     pub(crate) round: Vec<bool>,
     pub(crate) round_epoch: u64,
     pub(crate) clear: Vec<bool>,
-    // The words of objects that are far, or near without DIRTY, as they were stored: for clauses; and to be read, where they are
-    // kept.
+    // The words of objects that are far, or near without DIRTY, as they were stored: for clauses alone.
     pub(crate) stored: Stored,
-    pub(crate) rows: Option<StoredRows>,
     // The jobs and the copiers.
     pub(crate) jobs: Jobs,
     ghost remembered_sized: { vec_len remembered ≡ vec_len scopes },
@@ -74,5 +70,4 @@ pub(crate) struct Memory {
     ghost round_sized: { vec_len round ≡ vec_len tails },
     ghost clear_sized: { vec_len clear ≡ vec_len scopes },
     ghost stored_ends: { StoredEnds (CELLS * vec_len scopes) stored.items },
-    ghost rows_are: { ForSome rows (λ rows. RowsAre (CELLS * vec_len scopes) (stored_by stored.items) rows) },
 }

@@ -83,6 +83,7 @@ impl<N: Near + Drop, D: Device + Drop> Book<N, D> {
         };
         self.buffer = bytes;
         self.ledger.take_again(size, place);
+        self.counts.fetch();
         Ok(Some(place))
     }
 }

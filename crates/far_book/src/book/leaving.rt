@@ -179,6 +179,7 @@ impl<N: Near + Drop, D: Device + Drop> Book<N, D> {
             return Err(word);
         }
         self.ledger.lose(place.log, size_of(len));
+        self.counts.leave(found);
         Ok(())
     }
 }

@@ -114,6 +114,7 @@ impl<N: Near + Drop, D: Device + Drop> Book<N, D> {
         }
         self.ledger.lose(place.log, size);
         self.ledger.take_again(size, to);
+        self.counts.carry();
         Ok(Some(to))
     }
 

@@ -20,7 +20,7 @@ use crate::book::Book;
 use far_core::{Core, Event, Reply};
 use far_device::Device;
 use far_hand::{Plain, is_owners};
-use far_word::Place;
+use far_word::{Mark, Place};
 
 impl<D: Device + Drop> Book<Plain, D> {
     /// The core, to be read.
@@ -70,6 +70,35 @@ impl<D: Device + Drop> Book<Plain, D> {
         ensures device { self.new.device ≡ self.old.device }
     {
         self.near.core.pin(owner, pointer)
+    }
+
+    /// An owner uses a pointer of its own that it doesn't use yet, and whose word is neither free nor has DROP: the word.
+    #[inline]
+    pub fn adopt(&mut self, owner: u8, pointer: u16) -> u64
+        requires legal { Legal (core_state self.old.near.core) (Event.Adopt owner pointer) }
+        ensures state { core_state self.new.near.core ≡ after (core_state self.old.near.core) (Event.Adopt owner pointer) }
+        ensures changes { OthersChange (core_state self.old.near.core) (core_state self.new.near.core) }
+        ensures word { answer (core_state self.old.near.core) (Event.Adopt owner pointer) ≡ Reply.Word result }
+        ensures order { self.new.order ≡ self.old.order }
+        ensures device { self.new.device ≡ self.old.device }
+    {
+        let Some(word) = self.near.core.adopt(owner, pointer) else {
+            unreachable!()
+        };
+        word
+    }
+
+    /// An owner sets MOVE or DROP on a pointer that it uses and doesn't hold, and uses no longer what it drops: the word before.
+    #[inline]
+    pub fn ask(&mut self, owner: u8, pointer: u16, mark: Mark) -> u64
+        requires legal { Legal (core_state self.old.near.core) (Event.Ask owner pointer mark) }
+        ensures state { core_state self.new.near.core ≡ after (core_state self.old.near.core) (Event.Ask owner pointer mark) }
+        ensures changes { OthersChange (core_state self.old.near.core) (core_state self.new.near.core) }
+        ensures word { answer (core_state self.old.near.core) (Event.Ask owner pointer mark) ≡ Reply.Word result }
+        ensures order { self.new.order ≡ self.old.order }
+        ensures device { self.new.device ≡ self.old.device }
+    {
+        self.near.core.ask(owner, pointer, mark)
     }
 
     /// Data words of an object that its owner holds, from its word `first` on, as many as there is room for: a load each.

@@ -4,20 +4,16 @@ use Rattle.std.specs.List.{list_all}
 use Rattle.far_core.specs.declared.event.Event.{Event}
 use Rattle.far_core.specs.declared.event.Event.TheVariants.{Name}
 use Rattle.far_core.specs.declared.machine.Core.{Core}
-use Rattle.far_core.specs.declared.memory.Memory.{Memory}
 
 abbrev pub is_naming : Event → Bool
 is_naming (Name p old new) = true
 is_naming e = false
 
-abbrev pub can_tell : Memory → Event → Bool
-can_tell c e = is_some c.rows || not (is_naming e)
-
 abbrev pub keeps_stored : Core → Bool
-keeps_stored core = is_some core.memory.rows
+keeps_stored core = is_some core.rows
 
 abbrev pub tells : Core → Event → Bool
-tells core e = can_tell core.memory e
+tells core e = keeps_stored core || not (is_naming e)
 
 -- each event of a list: stored words are kept, or none of it names
 abbrev pub tells_all : Core → List Event → Bool

@@ -1,5 +1,5 @@
 -- What is stored of each pointer, by a list of what was stored, the last one first.
-use Rattle.std.specs.Prelude.{◌≡◌, ℕ, ◌≤◌, List, [], ◌∷◌, length, slice_index, Option, IfSome}
+use Rattle.std.specs.Prelude.{◌≡◌, ℕ, ◌≤◌, List, [], ◌∷◌, length, slice_index}
 use Rattle.std.specs.Vec.{vec_len}
 use Rattle.far_word.specs.declared.sizes.TheConstants.{LOG_WORDS}
 use Rattle.far_core.specs.declared.memory.stored_rows.StoredRows.{StoredRows}

@@ -8,12 +8,10 @@ ghost use Rattle.far_core.specs.events.Next.{next_state};
 ghost use Rattle.far_core.specs.events.Step.{step_of, is_legal, after, answer, data_len, Fits};
 ghost use Rattle.far_core.specs.state.Agrees.{Agrees};
 ghost use Rattle.far_core.specs.state.CoreState.{core_state};
-ghost use Rattle.far_core.specs.state.Kept.{can_tell, is_naming, keeps_stored, tells, tells_all};
+ghost use Rattle.far_core.specs.state.Kept.{is_naming, keeps_stored, tells, tells_all};
 ghost use Rattle.far_core.specs.state.Law.{Law};
 ghost use Rattle.far_core.specs.state.Memory.{state_of};
 ghost use Rattle.far_core.specs.state.State.{State};
-ghost use Rattle.far_core.specs.state.Stored.{RowsAre};
-ghost use Rattle.far_core.specs.state.StoredRows.{stored_in};
 ghost use Rattle.far_core.specs.world.Happens.{Happens};
 ghost use Rattle.far_core.specs.world.Runs.{Leads, Passes, Runs};
 ghost use Rattle.far_core.specs.world.WorldOf.{world_of};
@@ -21,7 +19,6 @@ ghost use Rattle.far_core.specs.world.WorldOf.{world_of};
 use crate::event::{Event, Reply};
 use crate::machine::Core;
 use crate::memory::Memory;
-use crate::memory::stored_rows::StoredRows;
 use far_word::{JOBS, MOST_COPIERS, Mark, Place, Refused};
 use std::alloc::Global;
 
@@ -35,6 +32,7 @@ impl Core {
         requires legal { Legal (core_state self.old) (Event.ReadEpoch owner) }
         ensures state { core_state self.new ≡ after (core_state self.old) (Event.ReadEpoch owner) }
         ensures epoch { answer (core_state self.old) (Event.ReadEpoch owner) ≡ Reply.Epoch result }
+        ensures kept { keeps_stored self.new ≡ keeps_stored self.old }
     {
         self.memory.read_epoch(owner)
     }
@@ -44,6 +42,7 @@ impl Core {
     pub fn open(&mut self, owner: u8)
         requires legal { Legal (core_state self.old) (Event.Open owner) }
         ensures state { core_state self.new ≡ after (core_state self.old) (Event.Open owner) }
+        ensures kept { keeps_stored self.new ≡ keeps_stored self.old }
     {
         self.memory.open(owner);
     }
@@ -56,6 +55,7 @@ impl Core {
         ensures state { core_state self.new ≡ after (core_state self.old) (Event.Pin owner pointer) }
         ensures held { IfOk result (λ place. answer (core_state self.old) (Event.Pin owner pointer) ≡ Reply.Held place) }
         ensures word { IfErr result (λ word. answer (core_state self.old) (Event.Pin owner pointer) ≡ Reply.Word word) }
+        ensures kept { keeps_stored self.new ≡ keeps_stored self.old }
     {
         self.memory.pin(owner, pointer)
     }
@@ -83,6 +83,7 @@ impl Core {
         requires inside { index < words_for (data_len (core_state self.old) pointer) }
         requires padding { word < 2 ^ (8 * (data_len (core_state self.old) pointer - 8 * index)) }
         ensures state { core_state self.new ≡ after (core_state self.old) (Event.Store owner pointer index word) }
+        ensures kept { keeps_stored self.new ≡ keeps_stored self.old }
     {
         self.memory.store(owner, pointer, index, word);
     }
@@ -94,6 +95,7 @@ impl Core {
         requires legal { Legal (core_state self.old) (Event.Soil owner pointer) }
         ensures state { core_state self.new ≡ after (core_state self.old) (Event.Soil owner pointer) }
         ensures word { answer (core_state self.old) (Event.Soil owner pointer) ≡ Reply.Word result }
+        ensures kept { keeps_stored self.new ≡ keeps_stored self.old }
     {
         self.memory.soil(owner, pointer)
     }
@@ -103,6 +105,7 @@ impl Core {
     pub fn close(&mut self, owner: u8)
         requires legal { Legal (core_state self.old) (Event.Close owner) }
         ensures state { core_state self.new ≡ after (core_state self.old) (Event.Close owner) }
+        ensures kept { keeps_stored self.new ≡ keeps_stored self.old }
     {
         self.memory.close(owner);
     }
@@ -118,6 +121,7 @@ impl Core {
         ensures state { IfSome result (λ _. core_state self.new ≡ after (core_state self.old) (Event.Adopt owner pointer)) }
         ensures word { IfSome result (λ word. answer (core_state self.old) (Event.Adopt owner pointer) ≡ Reply.Word word) }
         ensures refused { IfNone result (core_state self.new ≡ core_state self.old) }
+        ensures kept { keeps_stored self.new ≡ keeps_stored self.old }
     {
         if !self.memory.is_in_use(pointer) {
             return None;
@@ -132,6 +136,7 @@ impl Core {
         requires legal { Legal (core_state self.old) (Event.Ask owner pointer mark) }
         ensures state { core_state self.new ≡ after (core_state self.old) (Event.Ask owner pointer mark) }
         ensures word { answer (core_state self.old) (Event.Ask owner pointer mark) ≡ Reply.Word result }
+        ensures kept { keeps_stored self.new ≡ keeps_stored self.old }
     {
         self.memory.ask(owner, pointer, mark)
     }
@@ -141,6 +146,7 @@ impl Core {
     pub fn put(&mut self, log: u8, at: u16, word: u64)
         requires legal { Legal (core_state self.old) (Event.Put log at word) }
         ensures state { core_state self.new ≡ after (core_state self.old) (Event.Put log at word) }
+        ensures kept { keeps_stored self.new ≡ keeps_stored self.old }
     {
         self.memory.put(log, at, word);
     }
@@ -153,7 +159,9 @@ impl Core {
         ensures state { core_state self.new ≡ after (core_state self.old) (Event.Name pointer old new) }
         ensures won { IfOk result (λ _. answer (core_state self.old) (Event.Name pointer old new) ≡ Reply.Done) }
         ensures found { IfErr result (λ cell. answer (core_state self.old) (Event.Name pointer old new) ≡ Reply.Word cell) }
+        ensures kept { keeps_stored self.new ≡ keeps_stored self.old }
     {
+        self.memory.store_named(&mut self.rows, pointer, old, new);
         self.memory.name(pointer, old, new)
     }
 
@@ -164,6 +172,7 @@ impl Core {
         requires legal { Legal (core_state self.old) (Event.Get log at free) }
         ensures state { core_state self.new ≡ after (core_state self.old) (Event.Get log at free) }
         ensures word { answer (core_state self.old) (Event.Get log at free) ≡ Reply.Word result }
+        ensures kept { keeps_stored self.new ≡ keeps_stored self.old }
     {
         self.memory.get(log, at, free)
     }
@@ -201,6 +210,7 @@ impl Core {
         requires legal { Legal (core_state self.old) (Event.Clear pointer) }
         ensures state { core_state self.new ≡ after (core_state self.old) (Event.Clear pointer) }
         ensures word { answer (core_state self.old) (Event.Clear pointer) ≡ Reply.Word result }
+        ensures kept { keeps_stored self.new ≡ keeps_stored self.old }
     {
         self.memory.clear(pointer)
     }
@@ -212,6 +222,7 @@ impl Core {
         requires legal { Legal (core_state self.old) (Event.Advance logs) }
         ensures state { core_state self.new ≡ after (core_state self.old) (Event.Advance logs) }
         ensures epoch { answer (core_state self.old) (Event.Advance logs) ≡ Reply.Epoch result }
+        ensures kept { keeps_stored self.new ≡ keeps_stored self.old }
     {
         self.memory.advance(logs)
     }
@@ -223,6 +234,7 @@ impl Core {
         requires legal { Legal (core_state self.old) (Event.Look owner) }
         ensures state { core_state self.new ≡ after (core_state self.old) (Event.Look owner) }
         ensures word { answer (core_state self.old) (Event.Look owner) ≡ Reply.Word result }
+        ensures kept { keeps_stored self.new ≡ keeps_stored self.old }
     {
         self.memory.look(owner)
     }
@@ -232,6 +244,7 @@ impl Core {
     pub fn offer(&mut self, job: u8, pointer: u16, to: Place)
         requires legal { Legal (core_state self.old) (Event.Offer job pointer to) }
         ensures state { core_state self.new ≡ after (core_state self.old) (Event.Offer job pointer to) }
+        ensures kept { keeps_stored self.new ≡ keeps_stored self.old }
     {
         self.memory.offer(job, pointer, to);
     }
@@ -244,6 +257,7 @@ impl Core {
         ensures state { core_state self.new ≡ after (core_state self.old) (Event.Claim copier job old) }
         ensures won { IfOk result (λ _. answer (core_state self.old) (Event.Claim copier job old) ≡ Reply.Done) }
         ensures found { IfErr result (λ word. answer (core_state self.old) (Event.Claim copier job old) ≡ Reply.Word word) }
+        ensures kept { keeps_stored self.new ≡ keeps_stored self.old }
     {
         self.memory.claim(copier, job, old)
     }
@@ -254,6 +268,7 @@ impl Core {
         requires legal { Legal (core_state self.old) (Event.ReadLength copier) }
         ensures state { core_state self.new ≡ after (core_state self.old) (Event.ReadLength copier) }
         ensures word { answer (core_state self.old) (Event.ReadLength copier) ≡ Reply.Word result }
+        ensures kept { keeps_stored self.new ≡ keeps_stored self.old }
     {
         self.memory.read_length(copier)
     }
@@ -264,6 +279,7 @@ impl Core {
         requires legal { Legal (core_state self.old) (Event.Read copier index) }
         ensures state { core_state self.new ≡ after (core_state self.old) (Event.Read copier index) }
         ensures word { answer (core_state self.old) (Event.Read copier index) ≡ Reply.Word result }
+        ensures kept { keeps_stored self.new ≡ keeps_stored self.old }
     {
         self.memory.read(copier, index)
     }
@@ -273,6 +289,7 @@ impl Core {
     pub fn write_target(&mut self, copier: u8, index: u16)
         requires legal { Legal (core_state self.old) (Event.Write copier index) }
         ensures state { core_state self.new ≡ after (core_state self.old) (Event.Write copier index) }
+        ensures kept { keeps_stored self.new ≡ keeps_stored self.old }
     {
         self.memory.write(copier, index);
     }
@@ -282,6 +299,7 @@ impl Core {
     pub fn finish(&mut self, copier: u8)
         requires legal { Legal (core_state self.old) (Event.Finish copier) }
         ensures state { core_state self.new ≡ after (core_state self.old) (Event.Finish copier) }
+        ensures kept { keeps_stored self.new ≡ keeps_stored self.old }
     {
         self.memory.finish(copier);
     }
@@ -294,6 +312,7 @@ impl Core {
         ensures state { core_state self.new ≡ after (core_state self.old) (Event.Collect job old) }
         ensures won { IfOk result (λ _. answer (core_state self.old) (Event.Collect job old) ≡ Reply.Done) }
         ensures found { IfErr result (λ word. answer (core_state self.old) (Event.Collect job old) ≡ Reply.Word word) }
+        ensures kept { keeps_stored self.new ≡ keeps_stored self.old }
     {
         self.memory.collect(job, old)
     }
@@ -304,6 +323,7 @@ impl Core {
         requires legal { Legal (core_state self.old) (Event.Mark pointer) }
         ensures state { core_state self.new ≡ after (core_state self.old) (Event.Mark pointer) }
         ensures word { answer (core_state self.old) (Event.Mark pointer) ≡ Reply.Word result }
+        ensures kept { keeps_stored self.new ≡ keeps_stored self.old }
     {
         self.memory.mark(pointer)
     }
@@ -316,7 +336,7 @@ impl Core {
     pub fn keeps_stored(&self) -> bool
         ensures { result ≡ keeps_stored self.now }
     {
-        self.memory.rows.is_some()
+        self.rows.is_some()
     }
 
     /// Whether stored words are kept and a naming is legal: both words are on the layout and make a form that may be made of the
@@ -325,7 +345,10 @@ impl Core {
     pub fn may_name(&self, pointer: u16, old: u64, new: u64) -> bool
         ensures { IsTrue result ↔ ((keeps_stored self.now ≡ true) × Legal (core_state self.now) (Event.Name pointer old new)) }
     {
-        self.keeps_stored() && self.memory.may_name(pointer, old, new)
+        match &self.rows {
+            Some(rows) => self.memory.may_name(rows, pointer, old, new),
+            None => false,
+        }
     }
 
     /// Whether word `at` of a log may be read, and with `free` the log given back. With `free` this looks at the log's
@@ -357,84 +380,27 @@ impl Core {
 
 #[tactic(auto, using(crate::proofs::Calls::next_is_after))]
 impl Memory {
-    /// Makes an event, if it can be told whether it is legal, and it is.
+    /// Makes an event, if it is legal. A naming is the core's to make: it may store words.
     #[inline(always)]
     fn apply(&mut self, event: Event) -> Reply
-        requires { Law (state_of self.old) }
-        ensures step { can_tell self.old event ≡ true → (state_of self.new, result) ≡ step_of (state_of self.old) event }
-        ensures fits { can_tell self.old event ≡ true → Fits event }
-        ensures untold { can_tell self.old event ≡ false → (state_of self.new ≡ state_of self.old) × (result ≡ Reply.Refused) }
+        requires law { Law (state_of self.old) }
+        requires other { is_naming event ≡ false }
+        ensures step { (state_of self.new, result) ≡ step_of (state_of self.old) event }
+        ensures fits { Fits event }
     {
-        if self.can_tell(event) && self.allows(event) {
+        if self.allows(event) {
             self.make(event)
         } else {
             Reply::Refused
         }
     }
 
-    /// The same, and stored words stay kept, if they are.
-    fn apply_kept(&mut self, event: Event) -> Reply
-        requires { Law (state_of self.old) }
-        ensures step { can_tell self.old event ≡ true → (state_of self.new, result) ≡ step_of (state_of self.old) event }
-        ensures fits { can_tell self.old event ≡ true → Fits event }
-        ensures untold { can_tell self.old event ≡ false → (state_of self.new ≡ state_of self.old) × (result ≡ Reply.Refused) }
-        ensures kept { is_some self.new.rows ≡ is_some self.old.rows }
-    {
-        if !self.can_tell(event) || !self.allows(event) {
-            return Reply::Refused;
-        }
-        let rows = self.take_rows();
-        let rows = self.rows_after(rows, event);
-        let reply = self.make(event);
-        self.put_rows(rows);
-        reply
-    }
-
-    /// Whether this memory can tell of an event whether it is legal.
-    #[inline(always)]
-    fn can_tell(&self, event: Event) -> bool
-        ensures { result ≡ can_tell self.now event }
-    {
-        self.rows.is_some() || !is_naming(event)
-    }
-
-    /// What rows of stored words are after a legal event.
-    fn rows_after(&self, rows: Option<StoredRows>, event: Event) -> Option<StoredRows>
-        requires law { Law (state_of self.now) }
-        requires legal { is_legal (state_of self.now) event ≡ true }
-        requires rows { IfSome rows (λ rows. RowsAre (CELLS * (state_of self.now).mutators) (state_of self.now).stored rows) }
-        ensures kept { is_some result ≡ is_some rows }
-        ensures rows { IfSome result (λ rows. RowsAre (CELLS * (state_of self.now).mutators) (next_state (state_of self.now) event).stored rows) }
-    {
-        let Some(mut rows) = rows else {
-            return None;
-        };
-        if is_naming(event) {
-            self.rows_named(&mut rows, event);
-        }
-        Some(rows)
-    }
-
-    /// What rows of stored words are after a legal naming.
-    fn rows_named(&self, rows: &mut StoredRows, event: Event)
-        requires law { Law (state_of self.now) }
-        requires legal { is_legal (state_of self.now) event ≡ true }
-        requires naming { is_naming event ≡ true }
-        requires rows { RowsAre (CELLS * (state_of self.now).mutators) (state_of self.now).stored rows.old }
-        ensures { RowsAre (CELLS * (state_of self.now).mutators) (next_state (state_of self.now) event).stored rows.new }
-    {
-        let Event::Name { pointer, old, new } = event else {
-            unreachable!()
-        };
-        self.store_leaving(rows, pointer, old, new);
-    }
-
-    /// Whether an event is legal. A row an event: its test.
+    /// Whether an event is legal that names nothing. A row an event: its test.
     #[inline(always)]
     #[rattlefmt::skip]
     fn allows(&self, event: Event) -> bool
         requires law { Law (state_of self.now) }
-        requires told { can_tell self.now event ≡ true }
+        requires other { is_naming event ≡ false }
         ensures legal { result ≡ is_legal (state_of self.now) event }
         ensures fits { Fits event }
     {
@@ -450,7 +416,7 @@ impl Memory {
             Event::Ask { owner, pointer, mark } => self.may_ask(owner, pointer, mark),
             Event::Get { log, at, free } => self.may_get(log, at, free),
             Event::Put { log, at, word } => self.may_put(log, at, word),
-            Event::Name { pointer, old, new } => self.may_name(pointer, old, new),
+            Event::Name { .. } => unreachable!(),
             Event::See { pointer } => self.has_pointer(pointer),
             Event::Mark { pointer } => self.may_mark(pointer),
             Event::Clear { pointer } => self.may_clear(pointer),
@@ -468,12 +434,13 @@ impl Memory {
         }
     }
 
-    /// Makes a legal event. A row an event: its call and the reply.
+    /// Makes a legal event that names nothing. A row an event: its call and the reply.
     #[inline(always)]
     #[rattlefmt::skip]
     fn make(&mut self, event: Event) -> Reply
         requires law { Law (state_of self.old) }
         requires legal { is_legal (state_of self.old) event ≡ true }
+        requires other { is_naming event ≡ false }
         ensures state { state_of self.new ≡ next_state (state_of self.old) event }
         ensures reply { result ≡ answer (state_of self.old) event }
     {
@@ -489,7 +456,7 @@ impl Memory {
             Event::Ask { owner, pointer, mark } => Reply::Word(self.ask(owner, pointer, mark)),
             Event::Get { log, at, free } => Reply::Word(self.get(log, at, free)),
             Event::Put { log, at, word } => { self.put(log, at, word); Reply::Done }
-            Event::Name { pointer, old, new } => done_or_word(self.name(pointer, old, new)),
+            Event::Name { .. } => unreachable!(),
             Event::See { pointer } => Reply::Word(self.cell_at(pointer)),
             Event::Mark { pointer } => Reply::Word(self.mark(pointer)),
             Event::Clear { pointer } => Reply::Word(self.clear(pointer)),
@@ -541,19 +508,30 @@ impl Core {
         ensures law { Law (core_state self.new) }
         ensures agrees { Agrees (core_state self.new) }
         ensures world { Happens (world_of (core_state self.old)) event result (world_of (core_state self.new)) }
-    {
-        self.memory.apply(event)
-    }
-
-    /// The same, and stored words stay kept, if they are.
-    fn step_kept(&mut self, event: Event) -> Reply
-        ensures step { tells self.old event ≡ true → (core_state self.new, result) ≡ step_of (core_state self.old) event }
-        ensures law { Law (core_state self.new) }
-        ensures agrees { Agrees (core_state self.new) }
-        ensures world { Happens (world_of (core_state self.old)) event result (world_of (core_state self.new)) }
         ensures kept { keeps_stored self.new ≡ keeps_stored self.old }
     {
-        self.memory.apply_kept(event)
+        if is_naming(event) {
+            self.step_naming(event)
+        } else {
+            self.memory.apply(event)
+        }
+    }
+
+    /// The same of a naming.
+    fn step_naming(&mut self, event: Event) -> Reply
+        requires naming { is_naming event ≡ true }
+        ensures step { tells self.old event ≡ true → (core_state self.new, result) ≡ step_of (core_state self.old) event }
+        ensures fits { Fits event }
+        ensures untold { tells self.old event ≡ false → (core_state self.new ≡ core_state self.old) × (result ≡ Reply.Refused) }
+        ensures kept { keeps_stored self.new ≡ keeps_stored self.old }
+    {
+        let Event::Name { pointer, old, new } = event else {
+            unreachable!()
+        };
+        if !self.may_name(pointer, old, new) {
+            return Reply::Refused;
+        }
+        done_or_word(self.name(pointer, old, new))
     }
 
     /// Makes events in order, and answers the reply to each. Memory for all replies is taken first: refused
@@ -569,7 +547,7 @@ impl Core {
             return Err(Refused::Memory);
         };
         for event in events {
-            let reply = self.step_kept(*event);
+            let reply = self.step(*event);
             replies.push_reserved(reply);
         }
         Ok(replies)

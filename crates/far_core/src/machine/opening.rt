@@ -73,7 +73,6 @@ impl Memory {
             round_epoch: shape.epoch,
             clear: vec![in alloc; false; mutators]?,
             stored: Stored::new(),
-            rows: None,
             jobs: Jobs::new(alloc, has_copiers)?,
         })
     }
@@ -152,7 +151,6 @@ impl Core {
             return Err(Refused::Memory);
         };
         memory.set_kind(0, Kind::Open);
-        memory.put_rows(rows);
-        Ok(Core { memory })
+        Ok(Core { memory, rows })
     }
 }

@@ -9,6 +9,7 @@ ghost use Rattle.far_core.specs.events.Ranges.{AllLegal, after_events, copies, p
 ghost use Rattle.far_core.specs.events.Legal.{Legal};
 ghost use Rattle.far_core.specs.events.Step.{answer, data_len, data_word};
 ghost use Rattle.far_core.specs.state.CoreState.{core_state};
+ghost use Rattle.far_core.specs.state.Kept.{keeps_stored};
 ghost use Rattle.far_core.specs.state.Law.{Law};
 ghost use Rattle.far_core.specs.state.Memory.{state_of};
 ghost use Rattle.far_core.specs.state.State.{State, addr};
@@ -52,6 +53,7 @@ impl Core {
         ensures words { (place : Place) → (core_state self.old).held pointer ≡ Some place → (k : ℕ) → k < length words.now → (core_state self.new).word (addr place + 1 + (first + k)) ≡ slice_index words.now k }
         ensures others { (place : Place) → (core_state self.old).held pointer ≡ Some place → (a : ℕ) → (a < addr place + 1 + first) ⊎ (addr place + 1 + first + length words.now ≤ a)
             → (core_state self.new).word a ≡ (core_state self.old).word a }
+        ensures kept { keeps_stored self.new ≡ keeps_stored self.old }
     {
         self.memory.store_all(pointer, first, words);
     }
@@ -86,6 +88,7 @@ impl Core {
             ≡ spliced (bytes_of (λ i. (core_state self.old).word (data_word (core_state self.old) pointer i)) (data_len (core_state self.old) pointer)) from bytes.now }
         ensures others { (place : Place) → (core_state self.old).held pointer ≡ Some place → (a : ℕ) → (a < addr place + 1 + from / 8) ⊎ (addr place + 1 + words_for (from + length bytes.now) ≤ a)
             → (core_state self.new).word a ≡ (core_state self.old).word a }
+        ensures kept { keeps_stored self.new ≡ keeps_stored self.old }
     {
         self.memory.store_bytes(pointer, from, bytes);
     }
@@ -111,6 +114,7 @@ impl Core {
         requires inside { place.at + count ≤ LOG_WORDS }
         ensures state { core_state self.new ≡ after_events (core_state self.old) (puts place.log place.at count (λ _. 0)) }
         ensures legal { AllLegal (core_state self.old) (puts place.log place.at count (λ _. 0)) }
+        ensures kept { keeps_stored self.new ≡ keeps_stored self.old }
     {
         self.memory.put_zeros(place, count);
     }
@@ -141,6 +145,7 @@ impl Core {
         requires bytes { 8 * count ≤ length bytes.now }
         ensures state { core_state self.new ≡ after_events (core_state self.old) (puts place.log place.at count (packed_word bytes.now)) }
         ensures legal { AllLegal (core_state self.old) (puts place.log place.at count (packed_word bytes.now)) }
+        ensures kept { keeps_stored self.new ≡ keeps_stored self.old }
     {
         self.memory.put_words(place, bytes, count);
     }
@@ -157,6 +162,7 @@ impl Core {
         requires inside { to.at + count ≤ LOG_WORDS }
         ensures state { core_state self.new ≡ after_events (core_state self.old) (copies (core_state self.old) from.log from.at to.log to.at count) }
         ensures legal { AllLegal (core_state self.old) (copies (core_state self.old) from.log from.at to.log to.at count) }
+        ensures kept { keeps_stored self.new ≡ keeps_stored self.old }
     {
         self.memory.copy_words(from, to, count);
     }

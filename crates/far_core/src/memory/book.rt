@@ -1,6 +1,7 @@
 //! The events of the book.
 
 ghost use Rattle.std.specs.Prelude.{◌≡◌, ◌<◌, ◌≤◌, ◌+◌, ◌*◌, ℕ, true, IfErr, IfOk, IsSome, None, Some, is_some};
+ghost use Rattle.std.specs.Option.{ForSome};
 ghost use Rattle.far_core.specs.state.State.{State, addr, put};
 ghost use Rattle.far_core.specs.declared.event.Event.{Event};
 ghost use Rattle.far_core.specs.declared.event.Reply.{Reply};
@@ -152,20 +153,8 @@ impl Memory {
         Ok(())
     }
 
-    /// Whether a naming is legal, where the stored words are kept.
-    pub(crate) fn may_name(&self, pointer: u16, old: u64, new: u64) -> bool
-        requires law { Law (state_of self.now) }
-        requires kept { is_some self.now.rows ≡ true }
-        ensures { result ≡ is_legal (state_of self.now) (Event.Name pointer old new) }
-    {
-        let Some(rows) = &self.rows else {
-            unreachable!()
-        };
-        self.may_name_by(rows, pointer, old, new)
-    }
-
     /// Whether a naming is legal, by rows of what is stored.
-    fn may_name_by(&self, rows: &StoredRows, pointer: u16, old: u64, new: u64) -> bool
+    pub(crate) fn may_name(&self, rows: &StoredRows, pointer: u16, old: u64, new: u64) -> bool
         requires law { Law (state_of self.now) }
         requires rows { stored_in rows.now ≡ (state_of self.now).stored }
         ensures { result ≡ is_legal (state_of self.now) (Event.Name pointer old new) }
@@ -257,8 +246,28 @@ impl Memory {
         self.evict(pointer, new, len, place);
     }
 
+    /// Rows of stored words, where they are kept, become what they are after a legal naming.
+    #[inline(always)]
+    pub(crate) fn store_named(
+        &self,
+        rows: &mut Option<StoredRows>,
+        pointer: u16,
+        old: u64,
+        new: u64,
+    )
+        requires law { Law (state_of self.now) }
+        requires legal { is_legal (state_of self.now) (Event.Name pointer old new) ≡ true }
+        requires rows { ForSome rows.old (λ rows. RowsAre (CELLS * (state_of self.now).mutators) (state_of self.now).stored rows) }
+        ensures kept { is_some rows.new ≡ is_some rows.old }
+        ensures rows { ForSome rows.new (λ rows. RowsAre (CELLS * (state_of self.now).mutators) (next_state (state_of self.now) (Event.Name pointer old new)).stored rows) }
+    {
+        if let Some(rows) = rows {
+            self.store_leaving(rows, pointer, old, new);
+        }
+    }
+
     /// Rows of stored words get those of an object that a legal naming sends far.
-    pub(crate) fn store_leaving(&self, rows: &mut StoredRows, pointer: u16, old: u64, new: u64)
+    fn store_leaving(&self, rows: &mut StoredRows, pointer: u16, old: u64, new: u64)
         requires law { Law (state_of self.now) }
         requires legal { is_legal (state_of self.now) (Event.Name pointer old new) ≡ true }
         requires rows { RowsAre (CELLS * (state_of self.now).mutators) (state_of self.now).stored rows.old }

@@ -1,17 +1,14 @@
 //! One place of the memory written.
 
-ghost use Rattle.std.specs.Prelude.{◌≡◌, ◌+◌, ◌*◌, ◌<◌, ◌≤◌, ◌/◌, ◌==◌, cond, Some, None, IfSome, is_some, true, false};
+ghost use Rattle.std.specs.Prelude.{◌≡◌, ◌+◌, ◌*◌, ◌<◌, ◌≤◌, ◌/◌, ◌==◌, cond, Some, None, true, false};
 ghost use Rattle.far_word.specs.declared.sizes.TheConstants.{MOST_LOGS};
 ghost use Rattle.far_core.specs.events.namings.Evicts.{with_kept};
 ghost use Rattle.far_core.specs.state.State.{State, put};
 ghost use Rattle.far_core.specs.state.Memory.{state_of};
-ghost use Rattle.far_core.specs.state.Stored.{RowsAre};
 
 use crate::event::Kind;
 use crate::memory::Memory;
-use crate::memory::stored_rows::StoredRows;
 use far_word::{CELLS, LOG_WORDS, Place};
-use std::mem;
 
 impl Memory {
     #[tactic(auto, unfolding(crate::specs::state::Memory::state_of))]
@@ -175,29 +172,6 @@ impl Memory {
         let whose = [pointer];
         let bytes = &self.words.bytes[8 * from..8 * (from + count as usize)];
         self.stored.note(&whose, bytes);
-        if let Some(rows) = &mut self.rows {
-            rows.store_bytes(pointer, count, bytes);
-        }
-    }
-
-    /// Rows of stored words are taken out; none are kept from then on.
-    #[tactic(auto, unfolding(crate::specs::state::Memory::state_of))]
-    pub(crate) fn take_rows(&mut self) -> Option<StoredRows>
-        ensures state { state_of self.new ≡ state_of self.old }
-        ensures kept { is_some result ≡ is_some self.old.rows }
-        ensures rows { IfSome result (λ rows. RowsAre (CELLS * (state_of self.old).mutators) (state_of self.old).stored rows) }
-    {
-        mem::replace(&mut self.rows, None)
-    }
-
-    /// Rows of stored words are kept from then on, if there are any.
-    #[tactic(auto, unfolding(crate::specs::state::Memory::state_of))]
-    pub(crate) fn put_rows(&mut self, rows: Option<StoredRows>)
-        requires { IfSome rows (λ rows. RowsAre (CELLS * (state_of self.old).mutators) (state_of self.old).stored rows) }
-        ensures state { state_of self.new ≡ state_of self.old }
-        ensures kept { is_some self.new.rows ≡ is_some rows }
-    {
-        self.rows = rows;
     }
 
     /// The owner holds nothing from now on.

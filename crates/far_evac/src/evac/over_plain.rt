@@ -19,7 +19,7 @@ use crate::evac::Evac;
 use far_book::Plain;
 use far_core::{Event, Reply};
 use far_device::Device;
-use far_word::Place;
+use far_word::{Mark, Place};
 
 impl<D: Device + Drop> Evac<Plain, D> {
     /// Makes an owner's event. Any other is answered [`Reply::Refused`], and nothing has changed.
@@ -53,6 +53,34 @@ impl<D: Device + Drop> Evac<Plain, D> {
         ensures round { SameRound self.old self.new }
     {
         self.book.pin(owner, pointer)
+    }
+
+    /// An owner uses a pointer of its own that it doesn't use yet, and whose word is neither free nor has DROP: the word.
+    #[inline]
+    pub fn adopt(&mut self, owner: u8, pointer: u16) -> u64
+        requires legal { Legal (core_state self.old.book.near.core) (Event.Adopt owner pointer) }
+        ensures state { core_state self.new.book.near.core ≡ after (core_state self.old.book.near.core) (Event.Adopt owner pointer) }
+        ensures changes { OthersChange (core_state self.old.book.near.core) (core_state self.new.book.near.core) }
+        ensures word { answer (core_state self.old.book.near.core) (Event.Adopt owner pointer) ≡ Reply.Word result }
+        ensures order { self.new.book.order ≡ self.old.book.order }
+        ensures device { self.new.book.device ≡ self.old.book.device }
+        ensures round { SameRound self.old self.new }
+    {
+        self.book.adopt(owner, pointer)
+    }
+
+    /// An owner sets MOVE or DROP on a pointer that it uses and doesn't hold, and uses no longer what it drops: the word before.
+    #[inline]
+    pub fn ask(&mut self, owner: u8, pointer: u16, mark: Mark) -> u64
+        requires legal { Legal (core_state self.old.book.near.core) (Event.Ask owner pointer mark) }
+        ensures state { core_state self.new.book.near.core ≡ after (core_state self.old.book.near.core) (Event.Ask owner pointer mark) }
+        ensures changes { OthersChange (core_state self.old.book.near.core) (core_state self.new.book.near.core) }
+        ensures word { answer (core_state self.old.book.near.core) (Event.Ask owner pointer mark) ≡ Reply.Word result }
+        ensures order { self.new.book.order ≡ self.old.book.order }
+        ensures device { self.new.book.device ≡ self.old.book.device }
+        ensures round { SameRound self.old self.new }
+    {
+        self.book.ask(owner, pointer, mark)
     }
 
     /// An owner sets DIRTY on a pointer that it holds, and has soiled it until it closes: the word before.

@@ -4,6 +4,7 @@ use Rattle.far_word.specs.declared.sizes.TheConstants.{CELLS}
 use Rattle.far_core.specs.declared.event.Event.TheVariants.{Adopt}
 use Rattle.far_core.specs.state.Memory.{state_of}
 use Rattle.far_core.proofs.Calls.{law_after, next_is_after}
+use Rattle.far_core.proofs.Kept.{rows_after}
 use Rattle.far_core.proofs.machine.Core.adopt.Goals as goal
 
 own_below : (p m n : ℕ) → m < n → p / CELLS ≡ m → p < CELLS * n
@@ -22,6 +23,7 @@ pub invariant_of-self : goal.invariant_of-self
 invariant_of-self c = record {
   law = law_after (state_of c.args.self.now.memory) _ (Adopt c.args.owner c.args.pointer) c.adopt.ensures.state c.args.self.now.law
       (c.requires.owner, c.requires.own, c.requires.unused, sym c.is_in_use.ensures ∙ c.if-not-is_in_use.false) tt;
+  rows_are = rows_after c.args.self.now.rows (state_of c.args.self.now.memory) _ (Adopt c.args.owner c.args.pointer) c.adopt.ensures.state refl c.args.self.now.rows_are;
 }
 
 pub returns-clause-legal : goal.returns-clause-legal

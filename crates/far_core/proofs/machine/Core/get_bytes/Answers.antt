@@ -1,4 +1,4 @@
-use Rattle.std.proofs.Common.{◌≡◌, ◌∙◌, ◌+◌, ◌-◌, ◌*◌, ◌/◌, ◌<◌, ◌≤◌, ◌^◌, ℕ, List, ap, arith, get_or, length, sym}
+use Rattle.std.proofs.Common.{arith}
 use Rattle.far_core.proofs.machine.Core.get_bytes.Goals as goal
 
 pub returns-clause-legal : goal.returns-clause-legal

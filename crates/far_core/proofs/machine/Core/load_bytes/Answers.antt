@@ -1,4 +1,4 @@
-use Rattle.std.proofs.Common.{◌≡◌, ◌∙◌, ◌+◌, ◌-◌, ◌*◌, ◌/◌, ◌<◌, ◌≤◌, ◌^◌, ℕ, List, ap, arith, get_or, length, sym}
+use Rattle.std.proofs.Common.{arith}
 use Rattle.far_core.specs.state.Memory.{state_of}
 use Rattle.far_core.proofs.Calls.{load_legal}
 use Rattle.far_core.proofs.machine.Core.load_bytes.Goals as goal

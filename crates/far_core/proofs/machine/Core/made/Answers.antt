@@ -12,20 +12,20 @@ some_log n two = omega arith
 pub set_kind-requires : goal.set_kind-requires
 set_kind-requires c = rw c.in-Ok.ensures (some_log _ (in_range c.args.shape (sym c.if-not-is_in_range.ensures.is)).two_logs)
 
-pub invariant_of-result : goal.invariant_of-result
-invariant_of-result c = record { law = rw (c.put_rows.ensures.state, c.set_kind.ensures, c.in-Ok.ensures) (begins c.args.has_copiers c.args.shape c.args.honest (sym c.if-not-is_in_range.ensures.is)) }
+pub invariant_of-result-clause-law : goal.invariant_of-result-clause-law
+invariant_of-result-clause-law c = rw (c.set_kind.ensures, c.in-Ok.ensures) (begins c.args.has_copiers c.args.shape c.args.honest (sym c.if-not-is_in_range.ensures.is))
 
 pub returns-clause-opening : goal.returns-clause-opening
-returns-clause-opening c = rw (c.put_rows.ensures.state, c.set_kind.ensures, c.in-Ok.ensures) refl
+returns-clause-opening c = rw (c.set_kind.ensures, c.in-Ok.ensures) refl
 
 pub returns-clause-law : goal.returns-clause-law
-returns-clause-law c = rw (c.put_rows.ensures.state, c.set_kind.ensures, c.in-Ok.ensures) (begins c.args.has_copiers c.args.shape c.args.honest (sym c.if-not-is_in_range.ensures.is))
+returns-clause-law c = rw (c.set_kind.ensures, c.in-Ok.ensures) (begins c.args.has_copiers c.args.shape c.args.honest (sym c.if-not-is_in_range.ensures.is))
 
 pub returns-clause-agrees : goal.returns-clause-agrees
-returns-clause-agrees c = agrees (state_of c.put_rows.new.self) (rw (c.put_rows.ensures.state, c.set_kind.ensures, c.in-Ok.ensures) (begins c.args.has_copiers c.args.shape c.args.honest (sym c.if-not-is_in_range.ensures.is)))
+returns-clause-agrees c = agrees (state_of c.set_kind.new.self) (rw (c.set_kind.ensures, c.in-Ok.ensures) (begins c.args.has_copiers c.args.shape c.args.honest (sym c.if-not-is_in_range.ensures.is)))
 
 pub returns-clause-world : goal.returns-clause-world
-returns-clause-world c = rw (c.put_rows.ensures.state, c.set_kind.ensures, c.in-Ok.ensures) (opening_world c.args.has_copiers c.args.shape c.args.honest)
+returns-clause-world c = rw (c.set_kind.ensures, c.in-Ok.ensures) (opening_world c.args.has_copiers c.args.shape c.args.honest)
 
 few_pointers : (n : ℕ) → n ≤ MOST_MUTATORS → CELLS * n ≤ POINTERS
 few_pointers n few = omega arith

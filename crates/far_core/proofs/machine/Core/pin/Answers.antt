@@ -1,11 +1,15 @@
-use Rattle.std.proofs.Common.{◌∙◌}
+use Rattle.std.proofs.Common.{◌∙◌, refl}
 use Rattle.far_core.specs.declared.event.Event.TheVariants.{Pin}
 use Rattle.far_core.specs.state.Memory.{state_of}
 use Rattle.far_core.proofs.Calls.{law_after, next_is_after}
+use Rattle.far_core.proofs.Kept.{rows_after}
 use Rattle.far_core.proofs.machine.Core.pin.Goals as goal
 
 pub invariant_of-self : goal.invariant_of-self
-invariant_of-self c = record { law = law_after (state_of c.args.self.now.memory) _ (Pin c.args.owner c.args.pointer) c.pin.ensures.state c.args.self.now.law c.requires.legal tt }
+invariant_of-self c = record {
+  law = law_after (state_of c.args.self.now.memory) _ (Pin c.args.owner c.args.pointer) c.pin.ensures.state c.args.self.now.law c.requires.legal tt;
+  rows_are = rows_after c.args.self.now.rows (state_of c.args.self.now.memory) _ (Pin c.args.owner c.args.pointer) c.pin.ensures.state refl c.args.self.now.rows_are;
+}
 
 pub returns-clause-state : goal.returns-clause-state
 returns-clause-state c = c.pin.ensures.state ∙ next_is_after _ _

@@ -16,14 +16,14 @@ loop-event-preserved c =
     record {
       room = omega arith;
       count = omega arith;
-      kept = c.step_kept-reply.ensures.kept ∙ c.loop-event.invariant.kept;
+      kept = c.step-reply.ensures.kept ∙ c.loop-event.invariant.kept;
       leads = (λ kept.
           let h = c.loop-event.invariant.leads kept in (
-            h.0 ++ core_state c.step_kept-reply.new.self ∷ [],
+            h.0 ++ core_state c.step-reply.new.self ∷ [],
             rw (c.push_reserved.ensures.items, take_more c.args.events.now c.loop-event.event-index (ReadEpoch 0) c.loop-event-test.true)
-                (leads_more _ _ _ h.0 _ _ _ _ h.1 (record { step = c.step_kept-reply.ensures.step (told_in c.args.self.now c.loop-event.self c.args.events.now c.loop-event.event-index c.loop-event-test.true kept c.loop-event.invariant.kept); law = c.step_kept-reply.ensures.law; agrees = c.step_kept-reply.ensures.agrees })),
+                (leads_more _ _ _ h.0 _ _ _ _ h.1 (record { step = c.step-reply.ensures.step (told_in c.args.self.now c.loop-event.self c.args.events.now c.loop-event.event-index c.loop-event-test.true kept c.loop-event.invariant.kept); law = c.step-reply.ensures.law; agrees = c.step-reply.ensures.agrees })),
             rw (c.push_reserved.ensures.items, take_more c.args.events.now c.loop-event.event-index (ReadEpoch 0) c.loop-event-test.true)
-                (runs_more _ _ _ h.0 _ _ _ _ h.1 h.2 c.step_kept-reply.ensures.world),
+                (runs_more _ _ _ h.0 _ _ _ _ h.1 h.2 c.step-reply.ensures.world),
           ));
     }
 

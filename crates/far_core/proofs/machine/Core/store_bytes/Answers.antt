@@ -1,12 +1,13 @@
-use Rattle.std.proofs.Common.{◌≡◌, ◌∙◌, ◌+◌, ◌-◌, ◌*◌, ◌/◌, ◌<◌, ◌≤◌, ◌^◌, ℕ, List, ap, arith, get_or, length, sym}
-use Rattle.far_word.specs.Sizes.{words_for}
-use Rattle.far_core.specs.events.Step.{data_len, data_word}
+use Rattle.std.proofs.Common.{◌∙◌, ◌/◌, ◌<◌, ℕ, List, ap, get_or, sym}
+use Rattle.far_core.specs.events.Step.{data_word}
 use Rattle.far_core.specs.state.Memory.{state_of}
 use Rattle.far_core.specs.events.Written.{written_words}
 use Rattle.far_core.proofs.Calls.{soiled_held}
 use Rattle.far_core.proofs.DataBytes.{bytes_after, others_after, written_inside, written_pad}
 use Rattle.far_core.proofs.Ranges.{stores_end, stores_keep, stores_legal}
 use Rattle.far_core.proofs.Splices.{written_fit}
+use Rattle.far_core.proofs.Kept.{rows_same}
+use Rattle.far_core.specs.state.State.{State}
 use Rattle.far_core.proofs.machine.Core.store_bytes.Goals as goal
 
 pub invariant_of-self : goal.invariant_of-self
@@ -18,6 +19,7 @@ invariant_of-self c =
     record {
       law = rw c.store_bytes.ensures (stores_keep s law c.args.owner p (from / 8) words c.requires.own c.requires.soiled (written_inside s law p held from bs c.requires.inside)
           (written_pad s law p held from bs c.requires.inside small) (written_fit (λ i. s.word (data_word s p i)) from bs small));
+      rows_are = rows_same c.args.self.now.rows (state_of c.args.self.now.memory) (state_of c.store_bytes.new.self) (ap (λ (u : State). u.stored) c.store_bytes.ensures) (ap (λ (u : State). u.mutators) c.store_bytes.ensures) c.args.self.now.rows_are;
     }
 
 pub returns-clause-state : goal.returns-clause-state

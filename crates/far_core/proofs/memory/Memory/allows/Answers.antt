@@ -1,9 +1,7 @@
-use Rattle.std.proofs.Common.{◌≡◌, ◌∙◌, Bool, true, false, ap, sym}
-use Rattle.std.specs.Prelude.{◌||◌, is_some}
+use Rattle.std.proofs.Common.{◌≡◌, ◌∙◌, Bool, ap, sym}
 use Rattle.far_core.specs.declared.event.Event.{Event}
-use Rattle.far_core.specs.declared.event.Event.TheVariants.{Open, Load, Store, Adopt, Ask, Get, Put, Name, Mark, Clear, Advance, Offer, Claim, ReadLength, Read, Write, Finish, Collect}
+use Rattle.far_core.specs.declared.event.Event.TheVariants.{Open, Load, Store, Adopt, Ask, Get, Put, Mark, Clear, Advance, Offer, Claim, ReadLength, Read, Write, Finish, Collect}
 use Rattle.far_core.specs.events.Step.{is_legal}
-use Rattle.far_core.specs.state.Kept.{can_tell}
 use Rattle.far_core.specs.state.State.{State}
 use Rattle.far_core.proofs.memory.Memory.allows.Goals as goal
 
@@ -33,17 +31,6 @@ returns-in-Get-clause-legal c = legal_by _ _ _ (Get c.in-Get.log c.in-Get.at c.i
 
 pub returns-in-Put-clause-legal : goal.returns-in-Put-clause-legal
 returns-in-Put-clause-legal c = legal_by _ _ _ (Put c.in-Put.log c.in-Put.at c.in-Put.word) c.in-Put.is c.may_put.ensures
-
--- of a naming it can be told where rows are kept
-by_rows : (b : Bool) → b || false ≡ true → b ≡ true
-by_rows true h = h
-by_rows false h = h
-
-pub may_name-requires-clause-kept : goal.may_name-requires-clause-kept
-may_name-requires-clause-kept c = by_rows (is_some c.args.self.now.rows) (sym (ap (can_tell c.args.self.now) c.in-Name.is) ∙ c.requires.told)
-
-pub returns-in-Name-clause-legal : goal.returns-in-Name-clause-legal
-returns-in-Name-clause-legal c = legal_by _ _ _ (Name c.in-Name.pointer c.in-Name.old c.in-Name.new) c.in-Name.is c.may_name.ensures
 
 pub returns-in-Mark-clause-legal : goal.returns-in-Mark-clause-legal
 returns-in-Mark-clause-legal c = legal_by _ _ _ (Mark c.in-Mark.pointer) c.in-Mark.is c.may_mark.ensures

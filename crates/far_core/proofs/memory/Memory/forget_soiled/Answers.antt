@@ -1,4 +1,4 @@
-use Rattle.std.proofs.Common.{◌+◌, ◌≤◌, ◌/◌, ◌*◌, ◌∙◌, ℕ, ap, arith, Bool}
+use Rattle.std.proofs.Common.{◌/◌, ◌∙◌, ℕ, ap, arith, Bool}
 use Rattle.far_word.specs.declared.sizes.TheConstants.{CELLS}
 use Rattle.far_core.specs.state.Bits.{bit_in}
 use Rattle.far_core.specs.state.Memory.{state_of}

@@ -1,4 +1,4 @@
-use Rattle.std.proofs.Common.{◌∙◌, ap, sym, Option, Some}
+use Rattle.std.proofs.Common.{◌∙◌, ap, sym, Some}
 use Rattle.far_word.specs.declared.pointer.Place.{Place}
 use Rattle.far_core.proofs.HeldRows.{held_is, held_within}
 use Rattle.far_core.proofs.memory.Memory.held_place.Goals as goal

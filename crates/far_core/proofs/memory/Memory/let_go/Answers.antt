@@ -1,4 +1,4 @@
-use Rattle.std.proofs.Common.{◌+◌, ◌≤◌, ◌/◌, ◌*◌, ◌∙◌, ℕ, ap, arith, get_or, cond, Bool, Option, Some, None}
+use Rattle.std.proofs.Common.{◌/◌, ◌∙◌, ℕ, ap, arith, get_or, cond, Bool, Option, Some, None}
 use Rattle.std.specs.Prelude.{◌==◌}
 use mathlib.Core.Path.{fun_ext}
 use Rattle.far_word.specs.declared.pointer.Place.{Place}

@@ -1,4 +1,4 @@
-use Rattle.std.proofs.Common.{◌≡◌, ◌∙◌, ◌+◌, ◌-◌, ◌*◌, ◌/◌, ◌<◌, ◌≤◌, ◌^◌, ℕ, List, ap, arith, get_or, length, sym}
+use Rattle.std.proofs.Common.{◌∙◌, ◌+◌, ap, length}
 use Rattle.std.specs.Prelude.{slice_range}
 use Rattle.far_word.specs.Bytes.{bytes_of}
 use Rattle.far_core.specs.events.Step.{data_len}

@@ -1,6 +1,6 @@
 use Rattle.std.proofs.Common.{◌≡◌, ◌∙◌, ap, refl, sym}
 use Rattle.far_core.specs.declared.event.Event.{Event}
-use Rattle.far_core.specs.declared.event.Event.TheVariants.{ReadEpoch, Open, Store, Soil, Close, Adopt, Ask, Get, Put, Load, See, Mark, Clear, Advance, Look, Offer, ReadLength, Read, Write, Finish, Name, Claim, Collect, Pin}
+use Rattle.far_core.specs.declared.event.Event.TheVariants.{ReadEpoch, Open, Store, Soil, Close, Adopt, Ask, Get, Put, Load, See, Mark, Clear, Advance, Look, Offer, ReadLength, Read, Write, Finish, Claim, Collect, Pin}
 use Rattle.far_core.specs.declared.event.Reply.{Reply}
 use Rattle.far_core.specs.declared.event.Reply.TheVariants.{Word}
 use Rattle.far_core.specs.events.Next.{next_state}
@@ -137,9 +137,6 @@ returns-in-Finish-clause-state c = state_by _ _ _ (Finish c.in-Finish.copier) c.
 
 pub returns-in-Finish-clause-reply : goal.returns-in-Finish-clause-reply
 returns-in-Finish-clause-reply c = reply_by _ _ _ (Finish c.in-Finish.copier) c.in-Finish.is refl
-
-pub returns-in-Name-clause-state : goal.returns-in-Name-clause-state
-returns-in-Name-clause-state c = state_by _ _ _ (Name c.in-Name.pointer c.in-Name.old c.in-Name.new) c.in-Name.is c.name.ensures.state
 
 pub returns-in-Claim-clause-state : goal.returns-in-Claim-clause-state
 returns-in-Claim-clause-state c = state_by _ _ _ (Claim c.in-Claim.copier c.in-Claim.job c.in-Claim.old) c.in-Claim.is c.claim.ensures.state

@@ -1,5 +1,4 @@
-use Rattle.std.proofs.Common.{◌≡◌, ◌∙◌, ◌*◌, ◌<◌, ℕ, ap, arith, take}
-use Rattle.far_core.specs.events.Ranges.{with_row}
+use Rattle.std.proofs.Common.{◌∙◌, ◌*◌, ℕ, ap, arith, take}
 use Rattle.far_core.specs.state.Memory.{state_of}
 use Rattle.far_core.specs.state.Words.{word_in}
 use Rattle.far_word.specs.Bytes.{packed_word}

@@ -1,4 +1,4 @@
-use Rattle.std.proofs.Common.{◌≡◌, ◌<◌, ◌^◌, ◌∙◌, arith, sym}
+use Rattle.std.proofs.Common.{◌<◌, ◌^◌, ◌∙◌, arith, sym}
 use Rattle.far_core.proofs.Calls.{rests_inside}
 use Rattle.far_core.proofs.memory.Memory.pin.Goals as goal
 

@@ -1,4 +1,4 @@
-use Rattle.std.proofs.Common.{◌≡◌, ◌+◌, ◌*◌, ◌≤◌, ◌∙◌, ℕ, List, ap, arith, get_or, length}
+use Rattle.std.proofs.Common.{◌+◌, ◌*◌, ◌≤◌, ◌∙◌, ℕ, List, ap, arith, get_or, length}
 use Rattle.std.specs.Prelude.{slice_range}
 use Rattle.far_core.specs.state.Memory.{state_of}
 use Rattle.far_core.specs.state.Rows.{with_first}

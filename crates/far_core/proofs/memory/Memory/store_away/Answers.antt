@@ -1,23 +1,16 @@
-use Rattle.std.proofs.Common.{◌≡◌, ◌+◌, ◌-◌, ◌≤◌, ◌<◌, ◌*◌, ◌∙◌, ℕ, List, ◌∷◌, ap, arith, drop, get_or, subst, sym, Some, None, Option}
+use Rattle.std.proofs.Common.{◌≡◌, ◌+◌, ◌-◌, ◌≤◌, ◌*◌, ◌∙◌, ℕ, List, ap, arith, drop, subst, sym}
 use Rattle.std.specs.Prelude.{length, slice_range}
 use Rattle.std.specs.Vec.{vec_len}
 use Rattle.std.proofs.lemmas.List.{length-drop, length-take-le}
 use Rattle.far_word.proofs.ByteLaws.{length-words_of}
 use Rattle.far_word.specs.declared.sizes.TheConstants.{CELLS}
 use Rattle.far_core.specs.state.Memory.{state_of}
-use Rattle.far_core.specs.state.State.{put}
-use Rattle.far_core.specs.state.Stored.{RowsAre, StoredEnds, stored_by}
-use Rattle.far_core.specs.state.Rows.{with_first}
-use Rattle.far_core.specs.declared.memory.stored_rows.StoredRows.{StoredRows}
+use Rattle.far_core.specs.state.Stored.{StoredEnds, stored_by}
 use Rattle.far_core.proofs.Stored.{ends_noted}
 use Rattle.far_word.specs.Bytes.{words_of}
 use Rattle.far_core.specs.state.Words.{word_in}
 use Rattle.far_core.proofs.Words.{part_noted}
 use Rattle.far_core.proofs.memory.Memory.store_away.Goals as goal
-
-pub store_bytes-requires-clause-pointer : goal.store_bytes-requires-clause-pointer
-unfolding state_of
-store_bytes-requires-clause-pointer c = omega (arith, c.requires.pointer, (c.args.self.now.rows_are c.in-Some.rows c.in-Some.is).sized)
 
 pub invariant_of-self-clause-stored_ends : goal.invariant_of-self-clause-stored_ends
 unfolding state_of
@@ -30,46 +23,9 @@ invariant_of-self-clause-stored_ends c =
     subst (StoredEnds (CELLS * vec_len m.scopes)) (sym c.note.ensures)
     (ends_noted (CELLS * vec_len m.scopes) m.stored.items c.args.pointer (words_of zs) c.requires.pointer (omega (arith, length-words_of zs, long, c.requires.row)) m.stored_ends)
 
-abbrev some_of : StoredRows → Option StoredRows → StoredRows
-some_of d None = d
-some_of d (Some x) = x
-
-pub invariant_of-self-clause-rows_are : goal.invariant_of-self-clause-rows_are
-unfolding state_of
-invariant_of-self-clause-rows_are c =
-    let m = c.args.self.now in let from = c.args.from in let p = c.args.pointer in
-    let ws : List ℕ = words_of (slice_range c.deref.result.now (8 * from) (8 * (from + c.args.count))) in
-    let old : RowsAre (CELLS * vec_len m.scopes) (stored_by m.stored.items) c.in-Some.rows = m.rows_are c.in-Some.rows c.in-Some.is in
-    let new : RowsAre (CELLS * vec_len m.scopes) (stored_by c.note.new.self.items) c.store_bytes.new.self = record {
-      sized = c.store_bytes.ensures.sized ∙ old.sized;
-      same = c.store_bytes.ensures.stored ∙ ap (λ (f : ℕ → ℕ → ℕ). put f p (with_first (length ws) (λ i. get_or ws i 0) (f p))) old.same ∙ sym (ap stored_by c.note.ensures);
-    } in
-    λ x e. subst (RowsAre (CELLS * vec_len m.scopes) (stored_by c.note.new.self.items)) (ap (some_of c.store_bytes.new.self) e) new
-
-pub invariant_of-self-in_default-clause-stored_ends : goal.invariant_of-self-in_default-clause-stored_ends
-unfolding state_of
-invariant_of-self-in_default-clause-stored_ends c =
-    let m = c.args.self.now in let from = c.args.from in let end = from + c.args.count in
-    let xs = c.deref.result.now in
-    let zs : List ℕ = slice_range xs (8 * from) (8 * end) in
-    let fits : 8 * end ≤ length xs = omega (arith, c.requires.inside, ap length c.deref.ensures.value, m.words_sized, m.words.bytes.ok.0) in
-    let long : length zs ≡ 8 * c.args.count = length-take-le (8 * end - 8 * from) (drop (8 * from) xs) (omega (arith, fits, length-drop (8 * from) xs)) ∙ omega arith in
-    subst (StoredEnds (CELLS * vec_len m.scopes)) (sym c.note.ensures)
-    (ends_noted (CELLS * vec_len m.scopes) m.stored.items c.args.pointer (words_of zs) c.requires.pointer (omega (arith, length-words_of zs, long, c.requires.row)) m.stored_ends)
-
-pub returns-in-Some : goal.returns-in-Some
+pub returns : goal.returns
 unfolding state_of word_in
-returns-in-Some c =
-    let m = c.args.self.now in let words = m.words.bytes.items in let from = c.args.from in let end = from + c.args.count in
-    let old = stored_by m.stored.items in
-    let fits : 8 * end ≤ length words = omega (arith, c.requires.inside, m.words_sized, m.words.bytes.ok.0) in
-    ap (λ (f : ℕ → ℕ → ℕ). record (state_of m) { stored = f })
-    (ap stored_by c.note.ensures
-    ∙ part_noted words old c.args.pointer from c.args.count (slice_range c.deref.result.now (8 * from) (8 * end)) (ap (λ (xs : List ℕ). slice_range xs (8 * from) (8 * end)) c.deref.ensures.value) fits)
-
-pub returns-in_default : goal.returns-in_default
-unfolding state_of word_in
-returns-in_default c =
+returns c =
     let m = c.args.self.now in let words = m.words.bytes.items in let from = c.args.from in let end = from + c.args.count in
     let old = stored_by m.stored.items in
     let fits : 8 * end ≤ length words = omega (arith, c.requires.inside, m.words_sized, m.words.bytes.ok.0) in

@@ -1,4 +1,4 @@
-use Rattle.std.proofs.Common.{◌≡◌, ◌∙◌, ◌+◌, ◌-◌, ◌*◌, ◌/◌, ◌<◌, ◌≤◌, ◌^◌, ℕ, List, ap, arith, get_or, length, sym}
+use Rattle.std.proofs.Common.{◌∙◌, ◌+◌, ◌/◌, ap, get_or, length}
 use Rattle.far_core.specs.events.Ranges.{with_row}
 use Rattle.far_core.specs.state.Memory.{state_of}
 use Rattle.far_core.specs.events.Written.{written_words}

@@ -1,9 +1,6 @@
-use Rattle.std.proofs.Common.{◌≡◌, ◌+◌, ℕ, arith, ap, subst, sym, ◌∙◌}
-use Rattle.far_core.specs.events.namings.Evicts.{with_kept}
+use Rattle.std.proofs.Common.{arith}
 use Rattle.far_core.specs.state.Memory.{state_of}
-use Rattle.far_core.specs.state.State.{put}
 use Rattle.far_core.proofs.Bounds.{near_inside}
-use Rattle.far_core.proofs.Kept.{rows_stay}
 use Rattle.far_core.proofs.memory.Memory.store_in.Goals as goal
 
 pub put_in-requires-clause-row : goal.put_in-requires-clause-row

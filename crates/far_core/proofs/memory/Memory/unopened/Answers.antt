@@ -38,7 +38,6 @@ invariant_of-result c =
       round_sized = c.in_ok-vec-8.ensures.len ∙ logs;
       clear_sized = c.in_ok-vec-9.ensures.len ∙ mutators;
       stored_ends = rw c.new-5.ensures (none_ends (CELLS * vec_len c.in_ok-vec.field-0));
-      rows_are = λ x e. absurd cc;
     }
 
 pub returns : goal.returns

@@ -1,4 +1,4 @@
-use Rattle.std.proofs.Common.{◌≡◌, ◌<◌, ◌≤◌, ◌∙◌, ◌*◌, arith, drop, length, take}
+use Rattle.std.proofs.Common.{◌≡◌, ◌∙◌, ◌*◌, arith, drop, length, take}
 use Rattle.std.proofs.lemmas.List.{length-take-le}
 use Rattle.far_core.specs.state.Memory.{state_of}
 use Rattle.far_core.specs.state.Words.{word_in}

@@ -1,4 +1,4 @@
-use Rattle.std.proofs.Common.{◌≡◌, ◌∙◌, ◌+◌, ◌-◌, ◌*◌, ◌/◌, ◌<◌, ◌≤◌, ◌^◌, ℕ, List, ap, arith, get_or, length, sym}
+use Rattle.std.proofs.Common.{◌∙◌, ℕ, ap}
 use Rattle.far_core.specs.state.Memory.{state_of}
 use Rattle.far_core.specs.state.Words.{word_in}
 use Rattle.far_core.proofs.Splices.{written_row}

@@ -1,4 +1,4 @@
-use Rattle.std.proofs.Common.{◌≡◌, ◌+◌, ◌-◌, ◌*◌, ◌<◌, ◌≤◌, ap, arith}
+use Rattle.std.proofs.Common.{◌≡◌, ◌+◌, ◌-◌, arith}
 use Rattle.std.specs.Prelude.{length}
 use Rattle.std.specs.Vec.{vec_len}
 use Rattle.far_word.specs.Bytes.{words_of}

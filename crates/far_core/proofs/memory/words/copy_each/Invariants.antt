@@ -1,4 +1,4 @@
-use Rattle.std.proofs.Common.{◌≡◌, ℕ, length}
+use Rattle.std.proofs.Common.{◌≡◌, length}
 use Rattle.far_word.specs.Bytes.{packed_word}
 use Rattle.far_core.specs.events.Ranges.{with_copy}
 use Rattle.far_core.proofs.memory.words.copy_each.Given as goal

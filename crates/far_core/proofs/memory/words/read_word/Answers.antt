@@ -1,4 +1,4 @@
-use Rattle.std.proofs.Common.{◌*◌, ◌+◌, ◌≤◌, ◌∙◌, arith}
+use Rattle.std.proofs.Common.{◌∙◌, arith}
 use Rattle.far_word.proofs.WordBytes.{read_whole}
 use Rattle.far_core.proofs.memory.words.read_word.Goals as goal
 

@@ -1,4 +1,4 @@
-use Rattle.std.proofs.Common.{◌+◌, ◌-◌, ◌*◌, ap, arith, refl}
+use Rattle.std.proofs.Common.{◌+◌, ◌-◌, ◌*◌, arith, refl}
 use Rattle.far_core.specs.state.Bits.{bit_in}
 use Rattle.far_core.proofs.Bits.{part_cleared}
 use Rattle.far_core.proofs.Rows.{part_filled}

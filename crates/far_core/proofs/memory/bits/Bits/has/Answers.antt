@@ -1,4 +1,3 @@
-use Rattle.std.proofs.Common.{◌/◌, arith}
 use Rattle.far_core.specs.state.Bits.{bit_in}
 use Rattle.far_core.proofs.Bits.{bit_read}
 use Rattle.far_core.proofs.memory.bits.Bits.has.Goals as goal

@@ -1,4 +1,4 @@
-use Rattle.std.proofs.Common.{◌≡◌, ◌+◌, ◌-◌, ◌*◌, ◌∙◌, ◌≤◌, ℕ, ap, arith, get_or}
+use Rattle.std.proofs.Common.{◌≡◌, ◌+◌, ◌-◌, ◌∙◌, ◌≤◌, ℕ, ap, arith, get_or}
 use Rattle.std.specs.Prelude.{length}
 use Rattle.far_word.specs.Bytes.{words_of}
 use Rattle.far_word.proofs.ByteLaws.{length-words_of}

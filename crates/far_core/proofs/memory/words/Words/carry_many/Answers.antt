@@ -1,4 +1,4 @@
-use Rattle.std.proofs.Common.{◌≡◌, ◌∙◌, ◌+◌, ◌-◌, ◌*◌, ◌<◌, ◌≤◌, ℕ, ap, arith, length, get_or, List, sym, inl, inr}
+use Rattle.std.proofs.Common.{inl, inr}
 use Rattle.far_core.specs.state.Words.{word_in}
 use Rattle.far_core.proofs.Words.{carried, copied_each}
 use Rattle.far_core.proofs.memory.words.Words.carry_many.Goals as goal

@@ -1,4 +1,3 @@
-use Rattle.std.proofs.Common.{◌≡◌, ◌∙◌, ◌+◌, ◌-◌, ◌*◌, ◌<◌, ◌≤◌, ℕ, ap, arith, length, get_or, List, sym}
 use Rattle.far_core.specs.state.Words.{word_in}
 use Rattle.far_core.proofs.Words.{zero_word}
 use Rattle.far_core.proofs.Begins.{row_of}

@@ -1,5 +1,4 @@
-use Rattle.std.proofs.Common.{◌≡◌, ◌∙◌, ◌+◌, ◌-◌, ◌*◌, ◌<◌, ◌≤◌, ap, arith, length, get_or}
-use Rattle.far_word.specs.Bytes.{packed_word}
+use Rattle.std.proofs.Common.{◌+◌, ◌-◌, ◌*◌, arith, length}
 use Rattle.far_core.specs.state.Words.{word_in}
 use Rattle.far_core.proofs.Words.{store_is}
 use Rattle.far_core.proofs.memory.words.Words.store.Goals as goal

@@ -1,4 +1,4 @@
-use Rattle.std.proofs.Common.{◌≡◌, ◌∙◌, ◌+◌, ◌-◌, ◌*◌, ◌<◌, ◌≤◌, ap, arith, length, get_or}
+use Rattle.std.proofs.Common.{◌∙◌, ap, arith, length}
 use Rattle.far_word.specs.Bytes.{packed_word}
 use Rattle.far_core.specs.state.Words.{word_in}
 use Rattle.far_word.proofs.WordBytes.{read_whole}

@@ -1,4 +1,4 @@
-use Rattle.std.proofs.Common.{◌≡◌, ◌∙◌, ◌+◌, ◌-◌, ◌*◌, ◌<◌, ◌≤◌, ℕ, ap, arith, length, get_or, List, sym}
+use Rattle.std.proofs.Common.{◌+◌, ◌-◌, arith, length}
 use Rattle.far_core.specs.state.Words.{word_in}
 use Rattle.far_core.proofs.Words.{write_is, small_by}
 use Rattle.far_core.proofs.memory.words.Words.write.Goals as goal

@@ -1,0 +1,55 @@
+use Rattle.far_book.proofs.book.over_plain.Book+Plain+D.adopt.Goals as goal
+use Rattle.std.proofs.Common.{◌≡◌, ◌∙◌, ap, refl, subst, sym}
+use Rattle.std.proofs.lemmas.Bool.{false≢true}
+use Rattle.far_core.specs.declared.event.Event.TheVariants.{Adopt}
+use Rattle.far_core.specs.declared.event.Reply.TheVariants.{Word}
+use Rattle.far_core.specs.events.Legal.{Legal}
+use Rattle.far_core.specs.events.Step.{after, answer}
+use Rattle.far_core.specs.state.CoreState.{core_state}
+use Rattle.far_core.specs.state.State.{State}
+use Rattle.far_hand.specs.Others.{OthersChange}
+use Rattle.far_book.specs.book.BookOf.{BookOf}
+use Rattle.far_hand.specs.declared.plain.Plain.{Plain}
+use Rattle.far_hand.proofs.OthersWork.{change}
+use Rattle.far_book.proofs.region.Owned.{owned}
+
+pub invariant_of-self : goal.invariant_of-self
+invariant_of-self g c =
+    let core = c.self.inside.near.core in
+    let device = c.self.inside.device in
+    let legal : Legal (core_state core) (Adopt c.args.owner c.args.pointer) =
+    subst (λ (b : BookOf Plain g.row.D.Denot). Legal (core_state b.near.core) (Adopt c.args.owner c.args.pointer)) (sym c.self.view_is) c.requires.legal in (
+      owned (core_state core) (core_state c.adopt.new.self) core.law c.adopt.new.self.law
+          (subst (λ (t : State). OthersChange (core_state core) t) (sym c.in-Some.ensures.state) (change (core_state core) (Adopt c.args.owner c.args.pointer) core.law refl legal))
+          c.self.inside.ledger (g.D.Device.contents device) (g.D.Device.honest device) c.self.invariant.0,
+      c.self.invariant.1,
+    )
+
+pub returns-clause-changes : goal.returns-clause-changes
+returns-clause-changes g c =
+    let core = c.self.inside.near.core in
+    let legal : Legal (core_state core) (Adopt c.args.owner c.args.pointer) =
+    subst (λ (b : BookOf Plain g.row.D.Denot). Legal (core_state b.near.core) (Adopt c.args.owner c.args.pointer)) (sym c.self.view_is) c.requires.legal in
+    subst (λ (b : BookOf Plain g.row.D.Denot). OthersChange (core_state b.near.core) (core_state c.adopt.new.self)) c.self.view_is
+    (subst (λ (t : State). OthersChange (core_state core) t) (sym c.in-Some.ensures.state) (change (core_state core) (Adopt c.args.owner c.args.pointer) core.law refl legal))
+
+pub adopt-requires : goal.adopt-requires
+adopt-requires g c =
+    let legal : Legal (core_state c.self.inside.near.core) (Adopt c.args.owner c.args.pointer) =
+    subst (λ (b : BookOf Plain g.row.D.Denot). Legal (core_state b.near.core) (Adopt c.args.owner c.args.pointer)) (sym c.self.view_is) c.requires.legal in
+    record { owner = legal.0; own = legal.1; unused = legal.2 }
+
+pub unreachable-requires : goal.unreachable-requires
+unreachable-requires g c = false≢true (c.in_default.ensures.legal.1 (subst (λ (b : BookOf Plain g.row.D.Denot). Legal (core_state b.near.core) (Adopt c.args.owner c.args.pointer)) (sym c.self.view_is) c.requires.legal))
+
+pub returns-clause-state : goal.returns-clause-state
+returns-clause-state g c = c.in-Some.ensures.state ∙ ap (λ (b : BookOf Plain g.row.D.Denot). after (core_state b.near.core) (Adopt c.args.owner c.args.pointer)) c.self.view_is
+
+pub returns-clause-word : goal.returns-clause-word
+returns-clause-word g c = subst (λ (b : BookOf Plain g.row.D.Denot). answer (core_state b.near.core) (Adopt c.args.owner c.args.pointer) ≡ Word c.in-Some.word) c.self.view_is c.in-Some.ensures.word
+
+pub returns-clause-order : goal.returns-clause-order
+returns-clause-order g c = ap (λ (b : BookOf Plain g.row.D.Denot). b.order) c.self.view_is
+
+pub returns-clause-device : goal.returns-clause-device
+returns-clause-device g c = ap (λ (b : BookOf Plain g.row.D.Denot). b.device) c.self.view_is
