@@ -1,7 +1,6 @@
-// Preloaded into a program, makes its call number FAIL_CALL of those that read or write at a position fail (counted from 1; 0 or no such variable: none; where
-// FAIL_READS is set reads alone are counted), by EIO, or where FAIL_SHORT is set do half of what was asked. Byte number FAIL_FLIP of what each such read gives is
-// another, counted so too. From thread number FAIL_THREAD on none can be made. Where FAIL_UNLINK is set no file loses its name. At each such read byte number FAIL_BYTE of each
-// 64 in the blocks of FAIL_KEPT bytes that the program has asked for is set to one value.
+// Preloaded into a program, makes its call number FAIL_CALL of those that read or write at a position fail (counted from 1; 0 or no such variable: none), by EIO,
+// or where FAIL_SHORT is set do half of what was asked. Byte number FAIL_FLIP of what each such read gives is another, counted so too. From thread number
+// FAIL_THREAD on none can be made. Where FAIL_UNLINK is set no file loses its name.
 //
 //   cc -O2 -shared -fPIC -o fail_file.so fail_file.c -ldl
 #define _GNU_SOURCE
@@ -11,10 +10,7 @@
 #include <stdlib.h>
 #include <sys/types.h>
 
-enum { RECORD = 64, MOST_KEPT = 8 };
-
-static long count, threads, blocks;
-static char *kept[MOST_KEPT];
+static long count, threads;
 
 // What a variable says; 0 without it.
 static long number(const char *name) {
@@ -29,23 +25,15 @@ static int reached(long *counted, const char *name) {
 }
 
 // How many bytes this call is to ask for; -1: it fails.
-static ssize_t asked(size_t size, int reads) {
-    if (!reads && getenv("FAIL_READS")) return (ssize_t)size;
+static ssize_t asked(size_t size) {
     if (reached(&count, "FAIL_CALL") != 0) return (ssize_t)size;
     if (getenv("FAIL_SHORT")) return (ssize_t)(size / 2);
     errno = EIO;
     return -1;
 }
 
-static void spoil_kept(void) {
-    long size = number("FAIL_KEPT");
-    for (int i = 0; i < MOST_KEPT; i++)
-        for (long at = number("FAIL_BYTE") - 1; kept[i] && at < size; at += RECORD) kept[i][at] = 0x5a;
-}
-
 static ssize_t was_read(void *at, ssize_t size) {
     long flipped = number("FAIL_FLIP");
-    spoil_kept();
     if (0 < flipped && flipped <= size) ((char *)at)[flipped - 1] ^= (char)0xff;
     return size;
 }
@@ -55,18 +43,18 @@ static ssize_t was_written(const void *at, ssize_t size) {
     return size;
 }
 
-#define CALL(NAME, BYTES, READS, WAS)                                                         \
+#define CALL(NAME, BYTES, WAS)                                                                \
     ssize_t NAME(int file, BYTES at, size_t size, off_t from) {                               \
         static ssize_t (*real)(int, BYTES, size_t, off_t);                                    \
         if (!real) real = (ssize_t (*)(int, BYTES, size_t, off_t))dlsym(RTLD_NEXT, #NAME);    \
-        ssize_t left = asked(size, READS);                                                    \
+        ssize_t left = asked(size);                                                           \
         return left < 0 ? left : WAS(at, real(file, at, (size_t)left, from));                 \
     }
 
-CALL(pread, void *, 1, was_read)
-CALL(pread64, void *, 1, was_read)
-CALL(pwrite, const void *, 0, was_written)
-CALL(pwrite64, const void *, 0, was_written)
+CALL(pread, void *, was_read)
+CALL(pread64, void *, was_read)
+CALL(pwrite, const void *, was_written)
+CALL(pwrite64, const void *, was_written)
 
 int pthread_create(pthread_t *thread, const pthread_attr_t *how, void *(*run)(void *), void *with) {
     static int (*real)(pthread_t *, const pthread_attr_t *, void *(*)(void *), void *);
@@ -80,24 +68,4 @@ int unlink(const char *name) {
     if (!getenv("FAIL_UNLINK")) return real(name);
     errno = EPERM;
     return -1;
-}
-
-void *malloc(size_t size) {
-    static void *(*real)(size_t);
-    if (!real) real = (void *(*)(size_t))dlsym(RTLD_NEXT, "malloc");
-    char *block = real(size);
-    if (block && size > 0 && (long)size == number("FAIL_KEPT")) {
-        long at = __atomic_fetch_add(&blocks, 1, __ATOMIC_SEQ_CST);
-        if (at < MOST_KEPT) kept[at] = block;
-    }
-    return block;
-}
-
-// What is set above is never given back: another thread may just be setting it.
-void free(void *block) {
-    static void (*real)(void *);
-    if (!real) real = (void (*)(void *))dlsym(RTLD_NEXT, "free");
-    for (int i = 0; i < MOST_KEPT; i++)
-        if (block && kept[i] == block) return;
-    real(block);
 }

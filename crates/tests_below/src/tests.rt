@@ -3,6 +3,5 @@
 mod device;
 mod log;
 mod policy;
-mod signs;
 mod text;
 mod word;
