@@ -14,11 +14,11 @@ use Rattle.far_core.proofs.Cells.{unused}
 use Rattle.far_core.proofs.Put.{put_both, put_old}
 use Rattle.far_book.specs.book.FarSide.{kept_len}
 use Rattle.far_evac.specs.MomentLaw.{MomentLaw}
-use Rattle.far_replay.specs.Between.{Between}
+use Rattle.far_alone.specs.Between.{Between}
 use Rattle.far_replay.specs.Commanded.{LiesFar, Misled}
-use Rattle.far_replay.specs.Dereference.{asked_for, says_near, sought_of}
-use Rattle.far_replay.specs.Effects.{with_view}
-use Rattle.far_replay.specs.Objects.{named_len}
+use Rattle.far_alone.specs.Dereference.{asked_for, says_near, sought_of}
+use Rattle.far_alone.specs.Effects.{with_view}
+use Rattle.far_alone.specs.Objects.{named_len}
 use Rattle.far_replay.specs.Moment.{KeptBack, Moment, as_if_stored, with_stored}
 use Rattle.far_reply.specs.Reply.{Reply}
 use Rattle.far_text.specs.Command.{Command}

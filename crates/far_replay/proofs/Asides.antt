@@ -26,16 +26,15 @@ use Rattle.far_book.proofs.region.Moved.{moved_is, stayed_is, no_copy_in_room}
 use Rattle.far_book.proofs.region.Places.{named_is}
 use Rattle.far_evac.specs.Callers.{StepsAside}
 use Rattle.far_evac.proofs.StepsAside.{fetching_aside, layout, moving_aside, placing_aside, steps_join, still_aside}
-use Rattle.far_replay.specs.Dereference.{come, come_of, comes_to, comes_to_of, dereferenced, has_no_room, sought, sought_of}
-use Rattle.far_replay.specs.Effects.{is_slow, with_data, with_epoch, with_object, with_scope, with_view, without_object}
-use Rattle.far_replay.specs.Interpreter.{order_come, order_come_of, order_dereferenced}
+use Rattle.far_alone.specs.Dereference.{come, come_of, comes_to, comes_to_of, dereferenced, has_no_room, sought, sought_of, order_come, order_come_of, order_dereferenced}
+use Rattle.far_alone.specs.Effects.{is_slow, with_data, with_epoch, with_object, with_scope, with_view, without_object}
 use Rattle.far_replay.specs.Moment.{Moment, with_core}
-use Rattle.far_replay.specs.Objects.{lowest_cell, uses}
+use Rattle.far_alone.specs.Objects.{lowest_cell, uses}
 use Rattle.far_replay.specs.Turn.{with_new}
 use Rattle.far_replay.proofs.Brought.{MayBring}
 use Rattle.far_replay.proofs.Dereferences.{sought_law, sought_may}
-use Rattle.far_replay.proofs.Drops.{retired_either}
-use Rattle.far_replay.proofs.Lowest.{lowest_cell_is}
+use Rattle.far_alone.proofs.Drops.{retired_either}
+use Rattle.far_alone.proofs.Lowest.{lowest_cell_is}
 
 -- ---- the order, by which log is open
 -- where the open log was another, it is the youngest of the sealed ones

@@ -47,14 +47,14 @@ use Rattle.far_book.proofs.region.Moved.{may_rename, moved_is, stayed_is, no_cop
 use Rattle.far_book.proofs.region.MovesReached.{moving, staying}
 use Rattle.far_book.proofs.region.Owns.{own_law}
 use Rattle.far_book.proofs.region.ReachingFar.{fetching}
-use Rattle.far_replay.specs.Alone.{bytes_in_world}
-use Rattle.far_replay.specs.Dereference.{come, come_of, comes_to, comes_to_of}
-use Rattle.far_replay.specs.Events.{come_events, come_events_of, name_events, span_events}
+use Rattle.far_alone.specs.Own.{bytes_in_world}
+use Rattle.far_alone.specs.Dereference.{come, come_of, comes_to, comes_to_of}
+use Rattle.far_alone.specs.Events.{come_events, come_events_of, name_events, span_events}
 use Rattle.far_replay.specs.Taking.{BringTakes, TakesNone, TakesSpan}
-use Rattle.far_replay.specs.Objects.{object_len, named_len}
-use Rattle.far_replay.proofs.AloneRuns.{SameBytes}
-use Rattle.far_replay.proofs.Bringing.{fetched_keeps, moved_keeps, stayed_keeps}
-use Rattle.far_replay.proofs.Leading.{Leads, leads_append, leads_one, span_leads}
+use Rattle.far_alone.specs.Objects.{object_len, named_len}
+use Rattle.far_alone.proofs.AloneRuns.{SameBytes}
+use Rattle.far_alone.proofs.Bringing.{fetched_keeps, moved_keeps, stayed_keeps}
+use Rattle.far_alone.proofs.Leading.{Leads, leads_append, leads_one, span_leads}
 use Rattle.far_replay.proofs.LogBytes.{bytes_move, names_one, worded_takes}
 
 -- one object of a world is another with the same bytes

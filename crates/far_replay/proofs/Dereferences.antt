@@ -22,24 +22,24 @@ use Rattle.far_core.proofs.Cells.{map_mark}
 use Rattle.far_core.proofs.Guards.{open_fact}
 use Rattle.far_core.proofs.Put.{put_same, put_other}
 use Rattle.far_core.proofs.events.Ask.{move_marks, reads}
-use Rattle.far_replay.specs.Alone.{bytes_in_world}
-use Rattle.far_replay.specs.Between.{Between}
-use Rattle.far_replay.specs.Dereference.{asked_for, come, comes_to, dereferenced, has_no_room, sought, sought_of}
-use Rattle.far_replay.specs.Effects.{is_slow, with_view}
-use Rattle.far_replay.specs.EventRows.{after_events}
-use Rattle.far_replay.specs.Events.{asked_events, asked_events_of, come_events, dereference_events, sought_events, view_events}
+use Rattle.far_alone.specs.Own.{bytes_in_world}
+use Rattle.far_alone.specs.Between.{Between}
+use Rattle.far_alone.specs.Dereference.{asked_for, come, comes_to, dereferenced, has_no_room, sought, sought_of}
+use Rattle.far_alone.specs.Effects.{is_slow, with_view}
+use Rattle.far_core.specs.events.Ranges.{after_events}
+use Rattle.far_alone.specs.Events.{asked_events, asked_events_of, come_events, dereference_events, sought_events, view_events}
 use Rattle.far_replay.specs.Changes.{ViewsObject}
 use Rattle.far_replay.specs.Taking.{BringTakes, DereferenceLacks, DereferenceTakes, TakesNone}
-use Rattle.far_replay.specs.Objects.{named_len, object_len, uses}
+use Rattle.far_alone.specs.Objects.{named_len, object_len, uses}
 use Rattle.far_replay.proofs.AsIfStored.{ask_stores}
-use Rattle.far_replay.proofs.AloneRuns.{SameBytes, bytes_both, bytes_same, quiet_run, quiet_view}
-use Rattle.far_replay.proofs.Bringing.{KeepsOwners, asked_keeps, brought_keeps, came_opened, came_used, slow_opened, slow_unheld, slow_used}
+use Rattle.far_alone.proofs.AloneRuns.{SameBytes, bytes_both, bytes_same, quiet_run, quiet_view}
+use Rattle.far_alone.proofs.Bringing.{KeepsOwners, asked_keeps, brought_keeps, came_opened, came_used, slow_opened, slow_unheld, slow_used}
 use Rattle.far_replay.proofs.Brought.{Brought, MayBring, brought}
-use Rattle.far_replay.proofs.Leading.{Leads, leads_append, leads_law, leads_nowhere, leads_one}
-use Rattle.far_replay.proofs.Drops.{unheld_is}
+use Rattle.far_alone.proofs.Leading.{Leads, leads_append, leads_law, leads_nowhere, leads_one}
+use Rattle.far_alone.proofs.Drops.{unheld_is}
 use Rattle.far_replay.proofs.TakingView.{SameLogs, asked_on, asked_word, bring_more, bring_same, comes_place, lacks, sought_logs, view_takes}
-use Rattle.far_replay.proofs.Views.{Already, Anew, Seen, Viewed, already_is, anew_is, between_by, fast_dereference, fast_seen, pin_read, slow_parts, slow_view, view_between, view_holds, view_is, view_long, view_succeeds}
-use Rattle.far_text.proofs.Each.{Each}
+use Rattle.far_alone.proofs.Views.{Already, Anew, Seen, Viewed, already_is, anew_is, between_by, fast_dereference, fast_seen, pin_read, slow_parts, slow_view, view_between, view_holds, view_is, view_long, view_succeeds}
+use Rattle.std.specs.List.{AllByRecursion as Each}
 
 -- ---- one view
 module _ (s : State) (m p : ℕ) (law : Law s) (opened : is_opened s m ≡ true) (ours : uses s m p ≡ true) where

@@ -21,28 +21,29 @@ use Rattle.far_hand.specs.declared.plain.Plain.{Plain}
 use Rattle.far_evac.specs.EvacOf.{EvacOf}
 use Rattle.far_text.specs.Command.{Command, Mutator, Read, View, Write}
 use Rattle.far_replay.specs.Commanded.{AsksFor, KeepsFar, Misled, MisledBy, Outside, Serves, Refuses, Gives, Lacks, Served}
-use Rattle.far_replay.specs.Dereference.{asked_for, come, comes_to, dereferenced, has_no_room, says_near, sought}
-use Rattle.far_replay.specs.Effects.{is_slow, with_data, with_view}
+use Rattle.far_alone.specs.Dereference.{asked_for, come, comes_to, dereferenced, has_no_room, says_near, sought, order_come, order_dereferenced}
+use Rattle.far_alone.specs.Effects.{is_slow, with_data, with_view}
 use Rattle.far_replay.specs.Far.{FarBytes, HoldsSame, far_in, far_of}
-use Rattle.far_replay.specs.Interpreter.{Comes, Dereferences, IsAccess, IsViewed, MayGive, TellsOf, Views, as_given, order_come, order_dereferenced, words_by}
+use Rattle.far_replay.specs.Interpreter.{Comes, Dereferences, IsAccess, IsViewed, MayGive, TellsOf, Views, as_given, words_by}
 use Rattle.far_replay.specs.Moment.{FarSide, KeepsRound, Moment, as_if_stored, moment_in, state_in, with_stored}
-use Rattle.far_replay.specs.EventRows.{after_events}
-use Rattle.far_replay.specs.Events.{first_word, store_events, words_touched}
-use Rattle.far_replay.specs.Objects.{data_of, with_range}
+use Rattle.far_core.specs.events.Ranges.{after_events}
+use Rattle.far_alone.specs.Events.{first_word, store_events, words_touched}
+use Rattle.far_alone.specs.Objects.{data_of, with_range}
 use Rattle.far_reply.specs.Reply.{Reply, Data, Done, Refused}
 use Rattle.far_replay.specs.Spent.{Makes, SpentBy}
 use Rattle.far_replay.specs.Turn.{unless}
 use Rattle.far_replay.specs.declared.turn.Access.{Access}
 use Rattle.far_replay.proofs.AsIfStored.{as_it_was, far_keeps, law_as_if, view_as_if, view_stores}
 use Rattle.far_replay.proofs.Asides.{order_derefs}
-use Rattle.far_replay.proofs.Bringing.{far_is}
+use Rattle.far_alone.proofs.Bringing.{far_is}
 use Rattle.far_replay.proofs.Dereferences.{derefs}
-use Rattle.far_replay.proofs.RangeTurns.{writes_room, read_made, read_told, soiled_range, uses_own, view_cause, view_made, viewed_range, write_made, write_stored}
-use Rattle.far_replay.proofs.Spliced.{AreBytes}
+use Rattle.far_replay.proofs.RangeTurns.{writes_room, read_made, read_told, soiled_range, view_cause, view_made, viewed_range, write_made, write_stored}
+use Rattle.far_alone.proofs.Spliced.{AreBytes}
+use Rattle.far_alone.proofs.Storing.{uses_own}
 use Rattle.far_replay.proofs.Spending.{spent_first, spent_last, spent_same}
 use Rattle.far_replay.proofs.Told.{asks_hold, given_told, holds_both, same_holds, served_told}
 use Rattle.far_replay.proofs.Unbrought.{far_after, far_before, pinned}
-use Rattle.far_replay.proofs.Views.{fast_dereference, fast_near, slow_view}
+use Rattle.far_alone.proofs.Views.{fast_dereference, fast_near, slow_view}
 use Rattle.far_replay.proofs.WithCore.{moment_joined}
 
 -- ---- a pin once it has come

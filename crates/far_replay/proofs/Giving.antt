@@ -32,17 +32,17 @@ use Rattle.far_book.proofs.region.Coming.{fetched_alike, stands}
 use Rattle.far_book.proofs.region.Fetched.{fetched_come}
 use Rattle.far_evac.specs.EvacOf.{EvacOf}
 use Rattle.far_replay.specs.Commanded.{Outside, Serves, Refuses, Gives}
-use Rattle.far_replay.specs.Dereference.{asked_for, come, comes_to, says_near}
+use Rattle.far_alone.specs.Dereference.{asked_for, come, comes_to, says_near, order_come}
 use Rattle.far_replay.specs.Far.{HoldsSame, IsTold, far_in}
-use Rattle.far_replay.specs.Interpreter.{Comes, MayGive, order_come, refuser}
+use Rattle.far_replay.specs.Interpreter.{Comes, MayGive, refuser}
 use Rattle.far_replay.specs.Moment.{FarSide, state_in, with_stored}
 use Rattle.far_replay.specs.Spent.{SpentBy}
 use Rattle.far_replay.proofs.AsIfStored.{as_it_was, far_keeps, law_as_if}
-use Rattle.far_replay.proofs.Bringing.{SaysFar, far_came, far_here, far_is, far_order}
+use Rattle.far_alone.proofs.Bringing.{SaysFar, far_came, far_here, far_is, far_order}
 use Rattle.far_replay.proofs.Brought.{far_layout}
 use Rattle.far_replay.proofs.FarReads.{FarLetsGo, FarReads, NoMore, read_bytes, read_failed, read_fault, read_gives, read_leaves, read_no_more, same_no_more}
 use Rattle.far_replay.proofs.Spending.{spent_failed, spent_flip, spent_given, spent_none, spent_same, spent_short}
-use Rattle.far_replay.proofs.Spliced.{AreBytes}
+use Rattle.far_alone.proofs.Spliced.{AreBytes}
 use Rattle.far_replay.proofs.Told.{same_holds}
 
 -- ---- bytes, and the words of them

@@ -11,16 +11,16 @@ use Rattle.far_word.specs.Sizes.{size_of}
 use Rattle.far_book.specs.book.Fetching.{order_fetched}
 use Rattle.far_text.specs.Command.{Command, New, Open, Close, Where, Drop, Epoch, Mutator}
 use Rattle.far_text.specs.Written.{WritesBytes}
-use Rattle.far_replay.specs.Between.{Between}
-use Rattle.far_replay.specs.Effects.{with_epoch, with_scope, without_object}
-use Rattle.far_replay.specs.EventRows.{after_events}
+use Rattle.far_alone.specs.Between.{Between}
+use Rattle.far_alone.specs.Effects.{with_epoch, with_scope, without_object}
+use Rattle.far_core.specs.events.Ranges.{after_events}
 use Rattle.far_replay.specs.Events.{events_for, IsNoStep}
 use Rattle.far_replay.specs.Moment.{Moment, with_core}
-use Rattle.far_replay.specs.Objects.{lowest_cell}
+use Rattle.far_alone.specs.Objects.{lowest_cell}
 use Rattle.far_replay.specs.Turn.{effect, refusal, refused_effect, turn_effect, unless, with_new}
 use Rattle.far_core.proofs.Bounds.{some_of}
 use Rattle.far_replay.proofs.Asides.{order_new}
-use Rattle.far_replay.proofs.Drops.{retired_either}
+use Rattle.far_alone.proofs.Drops.{retired_either}
 use Rattle.far_replay.proofs.ToldRounds.{told_effect}
 use Rattle.far_replay.proofs.Turns.{events_make, new_parts, new_tests}
 use Rattle.far_replay.proofs.WithCore.{moment_joined, same_order}

@@ -20,8 +20,8 @@ use Rattle.far_replay.specs.Answers.{Answered, Commanded, Misled, Served, IsMome
 use Rattle.far_text.specs.Command.{Command, Read, Try, View, Write, Mutator, Book, Evacuator, Evacuate, Round, Step}
 use Rattle.far_book.specs.book.FarSide.{kept_len}
 use Rattle.far_replay.specs.Commanded.{AsksFor}
-use Rattle.far_replay.specs.Dereference.{dereferenced, has_no_room}
-use Rattle.far_replay.specs.Objects.{named_len, object_len, uses}
+use Rattle.far_alone.specs.Dereference.{dereferenced, has_no_room}
+use Rattle.far_alone.specs.Objects.{named_len, object_len, uses}
 use Rattle.far_word.specs.declared.refused.Refused.TheVariants.{Closed, Marked, NoRoom, NotHeld, Range}
 use Rattle.far_evac.specs.MomentLaw.{MomentLaw}
 use Rattle.far_evac.specs.declared.answers.RoundEnd.TheVariants.{Limit}
@@ -30,17 +30,18 @@ use Rattle.far_evac.specs.Strays.{NoneStrays}
 use Rattle.far_replay.specs.Events.{events_for, IsNoStep}
 use Rattle.far_replay.specs.Lawful.{Lawful}
 use Rattle.far_text.specs.Written.{WritesBytes, AllWriteBytes}
-use Rattle.far_replay.specs.EventRows.{after_events, AllSucceed, AllPass, Succeeds}
+use Rattle.far_core.specs.events.Ranges.{after_events}
+use Rattle.far_alone.specs.EventRows.{AllSucceed, AllPass, Succeeds}
 use Rattle.far_replay.specs.Moment.{KeptBack, Moment, as_if_stored}
 use Rattle.far_reply.specs.Reply.{Reply, Ended, Evacuated, Refused}
-use Rattle.far_replay.specs.Between.{Between}
+use Rattle.far_alone.specs.Between.{Between}
 use Rattle.far_replay.specs.Turn.{effect, refusal, refused_effect, reply_to, turn_effect, turn_reply, unless}
-use Rattle.far_text.proofs.Each.{Each}
+use Rattle.std.specs.List.{AllByRecursion as Each}
 use Rattle.far_word.specs.Pointer.{read_of}
 use Rattle.far_core.proofs.Cells.{map_mark}
 use Rattle.far_replay.proofs.AsIfStored.{between_as_if, far_is_used, kept_long, law_as_if, misled_fits, no_len, round_as_if, stored_again}
 use Rattle.far_replay.proofs.Dereferences.{Derefs, derefs}
-use Rattle.far_replay.proofs.Soiling.{soiled_reads}
+use Rattle.far_alone.proofs.Soiling.{soiled_reads}
 use Rattle.far_replay.proofs.ToldRounds.{told_round, told_effect}
 use Rattle.far_replay.proofs.Outcomes.{by_outcome}
 use Rattle.far_replay.proofs.Opened.{opening_law, opening_between, opening_round, opening_strays}

@@ -5,10 +5,11 @@ use Rattle.far_core.specs.declared.event.Event.TheVariants.{Load}
 use Rattle.far_core.specs.state.State.{State}
 use Rattle.far_core.specs.events.Step.{is_legal, data_len}
 use Rattle.far_core.proofs.Owing.{is_test}
-use Rattle.far_replay.specs.EventRows.{after_events, AllSucceed}
-use Rattle.far_replay.specs.Events.{load_events}
-use Rattle.far_replay.proofs.MadeLemmas.{load_stays, first_succeeds}
-use Rattle.far_replay.proofs.Views.{Viewed}
+use Rattle.far_core.specs.events.Ranges.{after_events}
+use Rattle.far_alone.specs.EventRows.{AllSucceed}
+use Rattle.far_alone.specs.Events.{load_events}
+use Rattle.far_alone.proofs.MadeLemmas.{load_stays, first_succeeds}
+use Rattle.far_alone.proofs.Views.{Viewed}
 
 -- loads leave the state
 pub loads_stay : (t : State) (m p first count : ℕ) → after_events t (load_events m p first count) ≡ t

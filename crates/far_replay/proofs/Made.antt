@@ -8,12 +8,12 @@ use Rattle.far_evac.specs.declared.answers.EvacFault.{EvacFault}
 use Rattle.far_evac.specs.EvacOf.{EvacOf}
 use Rattle.far_text.specs.Command.{Command, Evacuator, Mutator, Read, Request, Step, Write}
 use Rattle.far_text.specs.Written.{WritesBytes}
-use Rattle.far_replay.specs.Between.{Between}
+use Rattle.far_alone.specs.Between.{Between}
 use Rattle.far_replay.specs.Commanded.{AsksFor, Lacks, Refuses, Served, Serves, Stopped, StopsSo}
 use Rattle.far_replay.specs.Far.{HoldsBy, ToldBy, far_in}
 use Rattle.far_replay.specs.Interpreter.{stopper_of}
-use Rattle.far_replay.specs.Dereference.{has_no_room}
-use Rattle.far_replay.specs.EventRows.{after_events}
+use Rattle.far_alone.specs.Dereference.{has_no_room}
+use Rattle.far_core.specs.events.Ranges.{after_events}
 use Rattle.far_replay.specs.Events.{events_for}
 use Rattle.far_replay.specs.Moment.{FarSide, KeepsRound, Moment, moment_in, state_in}
 use Rattle.far_replay.specs.Outcome.{IsOutside}

@@ -25,12 +25,12 @@ use Rattle.far_core.proofs.Cells.{unused}
 use Rattle.far_core.proofs.Owing.{is_test}
 use Rattle.far_core.proofs.Put.{put_same, put_other}
 use Rattle.far_book.specs.book.Effects.{near_word, placed as placed_by}
-use Rattle.far_replay.specs.Effects.{with_row}
-use Rattle.far_replay.specs.EventRows.{after_events, Succeeds, AllSucceed}
-use Rattle.far_replay.specs.Between.{Between}
-use Rattle.far_replay.specs.Events.{zero_puts}
+use Rattle.far_core.specs.events.Ranges.{with_row, after_events}
+use Rattle.far_alone.specs.EventRows.{Succeeds, AllSucceed}
+use Rattle.far_alone.specs.Between.{Between}
+use Rattle.far_alone.specs.Events.{zero_puts}
 use Rattle.far_core.proofs.Rows.{row_is}
-use Rattle.far_replay.proofs.MadeLemmas.{made-append, AllSucceed-append, made_first, first_succeeds}
+use Rattle.far_alone.proofs.MadeLemmas.{made-append, AllSucceed-append, made_first, first_succeeds}
 
 -- ---- a row of zeros
 -- events that change words alone, to zeros from low up to high

@@ -9,7 +9,7 @@ use Rattle.far_core.specs.state.Law.{Law}
 use Rattle.far_core.specs.state.Shape.{is_shape}
 use Rattle.far_core.proofs.Begins.{begins}
 use Rattle.far_replay.specs.Answers.{shape_of, first_moment}
-use Rattle.far_replay.specs.Between.{Between}
+use Rattle.far_alone.specs.Between.{Between}
 use Rattle.far_core.specs.events.Mark.{is_sealed}
 use Rattle.far_evac.specs.MomentLaw.{MomentLaw}
 use Rattle.far_evac.specs.Strays.{NoneStrays}

@@ -14,12 +14,11 @@ use Rattle.far_core.specs.events.Step.{step_of}
 use Rattle.far_core.specs.state.Law.{Law}
 use Rattle.far_core.specs.state.Room.{room}
 use Rattle.far_core.specs.state.State.{State}
-use Rattle.far_book.specs.book.Effects.{placed}
+use Rattle.far_book.specs.book.Effects.{placed, near_word}
 use Rattle.far_book.specs.book.Ledger.{IsLowestFree}
-use Rattle.far_replay.specs.Effects.{near_word}
 use Rattle.far_text.specs.Command.{Mutator, New}
 use Rattle.far_replay.specs.Moment.{moment_of}
-use Rattle.far_replay.specs.Objects.{lowest_cell}
+use Rattle.far_alone.specs.Objects.{lowest_cell}
 use Rattle.far_replay.specs.Turn.{with_new, refusal, first_cause}
 use Rattle.far_replay.proofs.NewTurns.{object_is, placed_end}
 use Rattle.far_replay.proofs.Turns.{room_next}

@@ -1,62 +1,33 @@
 -- Reads and writes of a range: what the calls of the core ask for, and what the commands come to.
-use Rattle.std.proofs.Common.{[], ◌≡◌, ℕ, ◌+◌, ◌-◌, ◌*◌, ◌/◌, ◌^◌, ◌<◌, ◌≤◌, Bool, true, false, not, nat_eq, nat_lt, List, ◌∷◌, ◌++◌, length, get_or, refl, sym, ap, subst, ◌∙◌, arith, is_some, Option, Some, None, if◌then◌else◌}
-use Rattle.std.specs.Prelude.{slice_index, slice_range, IsSome, map}
-use Rattle.std.specs.List.{range_with_len}
-use Rattle.std.proofs.lemmas.Bool.{and_parts, eq-eqb, false≢true}
+use Rattle.std.proofs.Common.{[], ◌≡◌, ℕ, ◌+◌, ◌/◌, ◌<◌, ◌≤◌, Bool, true, false, not, nat_eq, nat_lt, List, ◌∷◌, ◌++◌, length, refl, sym, ap, subst, ◌∙◌, arith, is_some, Some, None, if◌then◌else◌}
+use Rattle.std.specs.Prelude.{slice_range}
+use Rattle.std.proofs.lemmas.Bool.{and_parts, false≢true}
 use Rattle.std.proofs.lemmas.Bool.Decides.{nat_tests}
-use Rattle.far_word.specs.Bytes.{packed_word}
-use Rattle.far_word.specs.Pointer.{IsPtr, pointer_len, read_of}
-use Rattle.far_word.specs.Sizes.{words_for}
-use Rattle.far_word.specs.declared.pointer.PtrWord.{PtrWord}
-use Rattle.far_word.specs.declared.pointer.PtrWord.TheVariants.{Free, Near, Far}
 use Rattle.far_word.specs.declared.refused.Refused.TheVariants.{NoRoom, Closed, NotHeld, Range}
-use Rattle.far_word.specs.declared.sizes.TheConstants.{CELLS, LONGEST}
-use Rattle.far_word.proofs.PointerLaws.{read_says}
+use Rattle.far_word.specs.declared.sizes.TheConstants.{CELLS}
 use Rattle.far_core.specs.declared.event.Event.{Event}
-use Rattle.far_core.specs.declared.event.Event.TheVariants.{Load as Loads, Store as Stores}
-use Rattle.far_core.specs.events.Ranges.{stores}
+use Rattle.far_core.specs.events.Ranges.{stores, after_events}
 use Rattle.far_core.specs.events.Soil.{after_soil}
-use Rattle.far_core.specs.events.Step.{data_len, data_word, is_opened}
+use Rattle.far_core.specs.events.Step.{data_word, is_opened}
 use Rattle.far_core.specs.events.Written.{written_words}
 use Rattle.far_core.specs.state.Law.{Law}
 use Rattle.far_core.specs.state.State.{State}
 use Rattle.far_text.specs.Command.{Command, Mutator, Read, View, Write}
-use Rattle.far_replay.specs.Dereference.{dereferenced, has_no_room}
-use Rattle.far_replay.specs.Effects.{with_data}
-use Rattle.far_replay.specs.EventRows.{after_events}
-use Rattle.far_replay.specs.Events.{first_word, store_events, words_touched}
+use Rattle.far_alone.specs.Dereference.{dereferenced, has_no_room}
+use Rattle.far_alone.specs.Effects.{with_data}
+use Rattle.far_alone.specs.Events.{first_word, store_events, words_touched}
 use Rattle.far_replay.specs.Interpreter.{IsAccess, IsViewed}
 use Rattle.far_replay.specs.Moment.{Moment, with_core}
-use Rattle.far_replay.specs.Objects.{data_of, is_range, named_len, object_len, with_range, uses}
+use Rattle.far_alone.specs.Objects.{data_of, is_range, object_len, with_range, uses}
 use Rattle.far_reply.specs.Reply.{Reply, Data, Refused}
 use Rattle.far_replay.specs.Turn.{access_causes, effect, first_cause, refusal, refused_effect, reply_to, turn_effect, turn_reply, unless}
 use Rattle.far_replay.specs.declared.turn.Access.{Access}
-use Rattle.far_core.proofs.Splices.{written_get, written_long}
 use Rattle.far_replay.proofs.Dereferences.{Derefs, derefs}
-use Rattle.far_replay.proofs.RangeWrites.{object_padded, rows_same, written_word}
-use Rattle.far_replay.proofs.Soiling.{soil_bytes, soil_len}
-use Rattle.far_replay.proofs.Spliced.{AreBytes}
+use Rattle.far_alone.proofs.Soiling.{soil_bytes, soil_len}
+use Rattle.far_alone.proofs.Spliced.{AreBytes}
+use Rattle.far_alone.proofs.Storing.{stores_made, uses_own}
 use Rattle.far_replay.proofs.Turns.{stores_lead}
 use Rattle.far_replay.proofs.Turns.{Access as Reached}
-
--- the length that a cell on the layout says
-pub len_named : (o : Option PtrWord) (n : ℕ) → IsSome o → ((v : PtrWord) → o ≡ Some v → n ≡ pointer_len v) → n ≡ named_len o
-len_named None n some is = absurd (false≢true some)
-len_named (Some Free) n some is = is Free refl
-len_named (Some (Near len ds place m)) n some is = is (Near len ds place m) refl
-len_named (Some (Far len ds m)) n some is = is (Far len ds m) refl
-
-ptr_most : (v : PtrWord) → IsPtr v → pointer_len v ≤ LONGEST
-ptr_most Free ok = omega arith
-ptr_most _ ok = ok.1
-
--- it is in range
-pub len_most : (w : ℕ) (o : Option PtrWord) (n : ℕ) → w < 2 ^ 64 → read_of w ≡ o → IsSome o → ((v : PtrWord) → o ≡ Some v → n ≡ pointer_len v) → n ≤ LONGEST
-len_most w None n fits e some is = absurd (false≢true some)
-len_most w (Some v) n fits e some is = omega (arith, is v refl, ptr_most v (read_says w v fits e).0)
-
-pub uses_own : (s : State) (m p : ℕ) → p / CELLS ≡ m → s.used p ≡ true → uses s m p ≡ true
-uses_own s m p own used = rw (eq-eqb (p / CELLS) m own, used) refl
 
 -- an access is reached
 pub opened_inside : (s : State) (m : ℕ) → is_opened s m ≡ true → nat_lt m s.mutators ≡ true
@@ -107,32 +78,11 @@ soiled_range s t a law is room to =
     }
 
 -- ---- the stores of a write
-module _ (t : State) (law : Law t) (a : Access) (new : List ℕ) (view : IsViewed t a) (long : length new ≡ a.count) where
-  abbrev word : ℕ → ℕ
-  word i = t.word (data_word t a.pointer i)
-
-  abbrev after : List ℕ
-  after = with_range (data_of t a.pointer) a.from new
-
-  abbrev row : ℕ → List Event
-  row n = map (λ i. Stores a.owner a.pointer (first_word a.from + i) (slice_index (written_words word a.from new) i)) (range_with_len 0 n)
-
-  touched : length (written_words word a.from new) ≡ words_touched a.from a.count
-  touched = written_long word a.from new ∙ ap (λ n. words_for (a.from + n) - first_word a.from) long
-
-  -- a word that is written is the object's with the new bytes in place
-  word_made : (i : ℕ) → i < words_touched a.from a.count → get_or (written_words word a.from new) i 0 ≡ packed_word after (first_word a.from + i)
-  word_made i lt =
-      written_get word a.from new i (omega (arith, lt, long))
-      ∙ written_word word (data_len t a.pointer) a.from new (omega (arith, long, view.inside)) (object_padded t law a.pointer) (first_word a.from + i) (omega (arith, lt, view.inside))
-
-  -- the stores of the words that are written are those of the new bytes
-  pub stores_made : stores a.owner a.pointer (first_word a.from) (written_words word a.from new) ≡ store_events a.owner a.pointer (first_word a.from) (words_touched a.from a.count) after
-  stores_made =
-      ap row touched
-      ∙ rows_same (Loads 0 0 0) (λ i. Stores a.owner a.pointer (first_word a.from + i) (slice_index (written_words word a.from new) i)) (λ i. Stores a.owner a.pointer i (packed_word after i)) 0 (first_word a.from) (words_touched a.from a.count)
-      (λ i lt. let here : 0 + i ≡ i = omega arith in
-      ap (λ k. Stores a.owner a.pointer (first_word a.from + k) (slice_index (written_words word a.from new) k)) here ∙ ap (Stores a.owner a.pointer (first_word a.from + i)) (word_made i lt))
+pub stores_asked : (t : State) → Law t → (a : Access) (new : List ℕ) → IsViewed t a → length new ≡ a.count →
+    stores a.owner a.pointer (first_word a.from) (written_words (λ i. t.word (data_word t a.pointer i)) a.from new) ≡ store_events a.owner a.pointer (first_word a.from) (words_touched a.from a.count) (with_range (data_of t a.pointer) a.from new)
+stores_asked t law a new view long =
+    stores_made t law a.owner a.pointer a.from new (omega (arith, long, view.inside))
+    ∙ ap (λ n. store_events a.owner a.pointer (first_word a.from) (words_touched a.from n) (with_range (data_of t a.pointer) a.from new)) long
 
 -- ---- a write
 -- a write's stores end where it does

@@ -12,7 +12,7 @@ use Rattle.far_word.specs.declared.sizes.TheConstants.{CELLS}
 use Rattle.far_word.specs.Pointer.{read_of}
 use Rattle.far_core.specs.declared.event.Event.{Event}
 use Rattle.far_core.specs.events.Naming.{is_dropped}
-use Rattle.far_core.specs.events.Ranges.{AllLegal}
+use Rattle.far_core.specs.events.Ranges.{AllLegal, after_events}
 use Rattle.far_core.specs.events.Step.{Fits, step_of}
 use Rattle.far_core.specs.state.Law.{Law}
 use Rattle.far_core.specs.state.State.{State}
@@ -40,15 +40,15 @@ use Rattle.far_evac.proofs.LeadingTurns.{round_leads}
 use Rattle.far_evac.proofs.LeadingWalks.{walking, walking_objects}
 use Rattle.far_evac.proofs.Onward.{or_split}
 use Rattle.far_text.specs.Command.{Choice, Command, Evacuator, Step, Select, Mark, Wait, Evacuate, Abort, Round}
-use Rattle.far_text.proofs.Each.{Each}
-use Rattle.far_replay.specs.Alone.{bytes_in_world, own_of}
-use Rattle.far_replay.specs.Between.{Between}
-use Rattle.far_replay.specs.EventRows.{after_events, AllPass, AllSucceed}
+use Rattle.std.specs.List.{AllByRecursion as Each}
+use Rattle.far_alone.specs.Own.{bytes_in_world, own_of}
+use Rattle.far_alone.specs.Between.{Between}
+use Rattle.far_alone.specs.EventRows.{AllPass, AllSucceed}
 use Rattle.far_replay.specs.Changes.{StayThrough}
 use Rattle.far_replay.specs.Rounds.{after_round, choice_causes, chosen_by, given_by, is_evacuating, is_marking, is_waiting, logs_given, refused_step, round_told, rows_in, step_effect, wait_causes}
 use Rattle.far_replay.specs.Stays.{CellStays, MayGain, Sees, Stays}
 use Rattle.far_replay.specs.Turn.{effect, first_cause, refusal, refused_effect, turn_effect, unless}
-use Rattle.far_replay.proofs.Leading.{legal_made}
+use Rattle.far_alone.proofs.Leading.{legal_made}
 use Rattle.far_replay.proofs.RoundChoices.{Chooses, choice_is, policy_chooses}
 use Rattle.far_replay.proofs.ViewsRest.{ClosesLast, NoClose, fronts_stay, none_closes}
 

@@ -13,9 +13,9 @@ use Rattle.far_word.specs.Pointer.{read_of}
 use Rattle.far_core.specs.events.Step.{is_legal, after, near_data}
 use Rattle.far_core.proofs.Keeps.{keeps}
 use Rattle.far_core.proofs.Owing.{is_test}
-use Rattle.far_replay.specs.Effects.{with_row}
-use Rattle.far_replay.specs.EventRows.{after_events, AllSucceed}
-use Rattle.far_replay.proofs.MadeLemmas.{made_first, first_succeeds}
+use Rattle.far_core.specs.events.Ranges.{with_row, after_events}
+use Rattle.far_alone.specs.EventRows.{AllSucceed}
+use Rattle.far_alone.proofs.MadeLemmas.{made_first, first_succeeds}
 use Rattle.far_core.proofs.Rows.{row_none, row_first}
 
 -- ---- a row of stores

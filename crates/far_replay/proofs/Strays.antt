@@ -16,8 +16,8 @@ use Rattle.far_evac.specs.Strays.{NoneComes, NoneStrays}
 use Rattle.far_evac.proofs.Comers.{Brings, brings_more, none_same, step_brings}
 use Rattle.far_evac.proofs.Strays.{aborting_none, callers_none, marking_none, polling_none, round_none, selecting_none, walking_none}
 use Rattle.far_text.specs.Command.{Abort, Command, Evacuate, Evacuator, Mark, Round, Select, Step, Wait}
-use Rattle.far_text.proofs.Each.{Each}
-use Rattle.far_replay.specs.EventRows.{after_events}
+use Rattle.std.specs.List.{AllByRecursion as Each}
+use Rattle.far_core.specs.events.Ranges.{after_events}
 use Rattle.far_replay.specs.Events.{IsNoStep}
 use Rattle.far_replay.specs.Moment.{Moment}
 use Rattle.far_replay.specs.Rounds.{after_round, choice_causes, chosen_by, given_by, is_evacuating, logs_given, refused_step, round_told, rows_in, step_effect}

@@ -19,12 +19,12 @@ use Rattle.far_core.proofs.Put.{put_other, put_same}
 use Rattle.far_core.proofs.events.Ask.{reads}
 use Rattle.far_book.specs.book.Dealing.{goal_of}
 use Rattle.far_book.specs.book.Fetching.{far_len}
-use Rattle.far_replay.specs.Dereference.{comes_to, comes_to_of, sought, sought_of}
-use Rattle.far_replay.specs.Effects.{is_slow, with_view}
+use Rattle.far_alone.specs.Dereference.{comes_to, comes_to_of, sought, sought_of}
+use Rattle.far_alone.specs.Effects.{is_slow, with_view}
 use Rattle.far_replay.specs.Taking.{BringTakes, DereferenceTakes, LacksRoom, TakesNone, TakesSpan}
-use Rattle.far_replay.specs.Objects.{uses}
+use Rattle.far_alone.specs.Objects.{uses}
 use Rattle.far_replay.proofs.LogBytes.{move_from, move_then, names_at, none_more, none_taken, worded_takes}
-use Rattle.far_replay.proofs.Views.{pin_read}
+use Rattle.far_alone.proofs.Views.{pin_read}
 
 -- a view takes nothing
 pub view_takes : (s : State) (m p : ℕ) → Law s → is_opened s m ≡ true → uses s m p ≡ true → TakesNone s (with_view s p)

@@ -8,7 +8,7 @@ use Rattle.far_hand.specs.declared.plain.Plain.{Plain}
 use Rattle.far_evac.specs.EvacOf.{EvacOf}
 use Rattle.far_text.specs.Command.{Command, Drop, Evacuate, Evacuator, Mutator, Read, Round, View, Write}
 use Rattle.far_replay.specs.Commanded.{AsksFor, Gives, Serves}
-use Rattle.far_replay.specs.Dereference.{says_near}
+use Rattle.far_alone.specs.Dereference.{says_near}
 use Rattle.far_replay.specs.Far.{FarBytes, HoldsBy, HoldsSame, IsTold, ToldBy, far_of}
 use Rattle.far_replay.specs.Interpreter.{MayGive}
 use Rattle.far_replay.specs.Moment.{FarSide, Moment}

@@ -14,10 +14,10 @@ use Rattle.far_evac.specs.Callers.{StepsAside}
 use Rattle.far_evac.specs.MomentLaw.{MomentLaw}
 use Rattle.far_evac.proofs.StepsAside.{steps_keep}
 use Rattle.far_text.specs.Command.{Command, New, Open, Write, Read, Close, Where, Drop, View, Try, Epoch, Mutator, Book, Evacuator}
-use Rattle.far_replay.specs.Dereference.{has_no_room}
+use Rattle.far_alone.specs.Dereference.{has_no_room}
 use Rattle.far_replay.specs.Events.{IsNoStep}
 use Rattle.far_replay.specs.Moment.{Moment, with_core}
-use Rattle.far_replay.specs.Objects.{is_range, lowest_cell, object_len, uses}
+use Rattle.far_alone.specs.Objects.{is_range, lowest_cell, object_len, uses}
 use Rattle.far_replay.specs.Turn.{effect, refusal, refused_effect, turn_effect, unless, with_new}
 use Rattle.far_replay.proofs.Asides.{close_aside, derefs_aside, epoch_aside, new_aside, same_aside, scope_aside, sought_aside, view_aside, without_aside, writes_aside}
 use Rattle.far_replay.proofs.Turns.{five, four, new_sizes, tried}

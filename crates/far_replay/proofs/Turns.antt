@@ -33,29 +33,32 @@ use Rattle.far_core.proofs.RoomLaws.{room_right}
 use Rattle.far_core.proofs.Put.{put_same, put_old, put_other}
 use Rattle.far_replay.specs.Moment.{Moment, moment_of}
 use Rattle.far_text.specs.Command.{Command, New, Open, Write, Read, Close, Where, Drop, View, Try, Epoch, Mutator, Book, Evacuator}
-use Rattle.far_replay.specs.EventRows.{after_events, AllSucceed}
-use Rattle.far_replay.specs.Between.{Between}
-use Rattle.far_replay.specs.Events.{new_events, zero_puts, open_events, view_events, sought_events, dereference_events, first_word, words_touched, load_events, starts_inside, ends_inside, part_events, soil_events, store_events, drop_events, turn_events, refused_events, events_for, IsNoStep}
-use Rattle.far_replay.specs.Objects.{uses, object_len, data_of, with_range, lowest_cell, is_range}
-use Rattle.far_replay.specs.Dereference.{comes_to, dereferenced, has_no_room, sought}
-use Rattle.far_replay.specs.Effects.{near_word}
-use Rattle.far_replay.specs.Effects.{with_row, with_object, with_view, is_slow, with_data, with_epoch, with_scope, without_object, epoch_for}
+use Rattle.far_core.specs.events.Ranges.{after_events, with_row}
+use Rattle.far_alone.specs.EventRows.{AllSucceed}
+use Rattle.far_alone.specs.Between.{Between}
+use Rattle.far_alone.specs.Events.{new_events, zero_puts, open_events, view_events, sought_events, dereference_events, first_word, words_touched, load_events, starts_inside, ends_inside, part_events, soil_events, store_events, drop_events}
+use Rattle.far_replay.specs.Events.{turn_events, refused_events, events_for, IsNoStep}
+use Rattle.far_alone.specs.Objects.{uses, object_len, data_of, with_range, lowest_cell, is_range}
+use Rattle.far_alone.specs.Dereference.{comes_to, dereferenced, has_no_room, sought}
+use Rattle.far_book.specs.book.Effects.{near_word}
+use Rattle.far_alone.specs.Effects.{with_object, with_view, is_slow, with_data, with_epoch, with_scope, without_object, epoch_for}
 use Rattle.far_replay.specs.Turn.{turn_effect, refused_effect, effect, with_new, access_causes, first_cause, refusal, unless}
 use Rattle.far_text.specs.Written.{WritesBytes}
-use Rattle.far_replay.proofs.Drops.{unheld_is, drop_succeeds, drop_ends, drop_law, drop_fits, drop_named}
+use Rattle.far_alone.proofs.Drops.{unheld_is, drop_succeeds, drop_ends, drop_law, drop_fits, drop_named}
 use Rattle.far_replay.proofs.LoadWords.{loads_stay, load_legal, loads_succeed}
-use Rattle.far_replay.proofs.Lowest.{lowest_cell_is}
-use Rattle.far_replay.proofs.MadeLemmas.{made_first, first_succeeds, made_law, load_stays}
+use Rattle.far_alone.proofs.Lowest.{lowest_cell_is}
+use Rattle.far_alone.proofs.MadeLemmas.{made_first, first_succeeds, made_law, load_stays}
 use Rattle.far_replay.proofs.NewTurns.{new_succeeds, new_between, new_end, object_is}
-use Rattle.far_text.proofs.Each.{Each, Each-append, Each-row}
-use Rattle.far_replay.proofs.Spliced.{AreBytes, with_range_bytes, length-with_range, packed_padded, packed_wide}
+use Rattle.std.specs.List.{AllByRecursion as Each}
+use Rattle.far_alone.proofs.Each.{Each-append, Each-row}
+use Rattle.far_alone.proofs.Spliced.{AreBytes, with_range_bytes, length-with_range, packed_padded, packed_wide}
 use Rattle.far_replay.proofs.StoreTurns.{stores_go, stores_end}
-use Rattle.far_replay.proofs.Soiling.{soil_data, soil_holds, soil_law, soil_leads, soil_len}
-use Rattle.far_replay.proofs.RangeWrites.{object_padded}
+use Rattle.far_alone.proofs.Soiling.{soil_data, soil_holds, soil_law, soil_leads, soil_len}
+use Rattle.far_alone.proofs.RangeWrites.{object_padded}
 use Rattle.far_replay.proofs.WriteEnds.{row_whole}
 use Rattle.far_replay.proofs.Dereferences.{Derefs, derefs, sought_between, sought_leads, view_leads}
-use Rattle.far_replay.proofs.Leading.{Leads, leads_append, leads_nowhere}
-use Rattle.far_replay.proofs.Views.{Viewed, between_by, view_between}
+use Rattle.far_alone.proofs.Leading.{Leads, leads_append, leads_nowhere}
+use Rattle.far_alone.proofs.Views.{Viewed, between_by, view_between}
 
 -- ---- what no refusal says
 -- four causes that aren't there

@@ -17,16 +17,17 @@ use Rattle.far_evac.specs.EvacOf.{EvacOf}
 use Rattle.far_text.specs.Command.{Command, Mutator, Try}
 use Rattle.far_replay.specs.Commanded.{AsksFor, CommandedBy, KeepsFar, Serves, Served, Stopped, Unbrought}
 use Rattle.far_replay.specs.Far.{FarBytes, HoldsSame, ToldBy, far_in}
-use Rattle.far_replay.specs.Dereference.{RefusesBringing, RefusesView, comes_to, has_no_room, says_near, sought, sought_of}
-use Rattle.far_replay.specs.Effects.{is_slow, with_view}
+use Rattle.far_alone.specs.Dereference.{RefusesBringing, RefusesView, comes_to, has_no_room, says_near, sought, sought_of}
+use Rattle.far_alone.specs.Effects.{is_slow, with_view}
 use Rattle.far_replay.specs.Interpreter.{refuser}
 use Rattle.far_replay.specs.Moment.{FarSide, KeepsRound, Moment, moment_in, state_in, with_core}
 use Rattle.far_reply.specs.Reply.{Reply, Refused}
 use Rattle.far_replay.specs.Spent.{Makes, SpentBy}
 use Rattle.far_replay.specs.Turn.{effect, first_cause, refusal, refused_effect, turn_effect, turn_reply, unless}
-use Rattle.far_replay.proofs.Bringing.{SaysFar, far_is}
-use Rattle.far_replay.proofs.RangeTurns.{opened_inside, uses_own}
-use Rattle.far_replay.proofs.Views.{pin_read, slow_view}
+use Rattle.far_alone.proofs.Bringing.{SaysFar, far_is}
+use Rattle.far_replay.proofs.RangeTurns.{opened_inside}
+use Rattle.far_alone.proofs.Storing.{uses_own}
+use Rattle.far_alone.proofs.Views.{pin_read, slow_view}
 use Rattle.far_replay.proofs.Told.{asks_hold, refused_told}
 use Rattle.far_replay.proofs.WithCore.{moment_joined, same_order}
 use Rattle.far_replay.proofs.Asides.{sought_current}

@@ -17,9 +17,9 @@ use Rattle.far_core.proofs.Keeps.{step_keeps}
 use Rattle.far_core.proofs.Steps.{agrees, step_does}
 use Rattle.far_core.proofs.WorldFacts.{view_rests}
 use Rattle.far_core.proofs.WorldLaws.{steps_keep}
-use Rattle.far_replay.specs.EventRows.{after_events}
-use Rattle.far_text.proofs.Each.{Each}
-use Rattle.far_replay.proofs.MadeLemmas.{made-append, made_law}
+use Rattle.far_core.specs.events.Ranges.{after_events}
+use Rattle.std.specs.List.{AllByRecursion as Each}
+use Rattle.far_alone.proofs.MadeLemmas.{made-append, made_law}
 
 -- ---- rows of events in which a close comes last
 abbrev pub NoClose : Event → Type 0

@@ -4,12 +4,12 @@ use Rattle.std.proofs.lemmas.Bool.{cases_lt}
 use Rattle.far_word.specs.Bytes.{bytes_of, packed_word}
 use Rattle.far_word.specs.Sizes.{words_for}
 use Rattle.far_word.proofs.ByteLaws.{length-bytes_of, packs_back}
-use Rattle.far_replay.specs.Effects.{with_row}
-use Rattle.far_replay.specs.Events.{first_word, words_touched}
-use Rattle.far_replay.specs.Objects.{with_range}
+use Rattle.far_core.specs.events.Ranges.{with_row}
+use Rattle.far_alone.specs.Events.{first_word, words_touched}
+use Rattle.far_alone.specs.Objects.{with_range}
 use Rattle.far_core.proofs.Rows.{row_in, row_out, row_is}
 use Rattle.far_core.proofs.Words.{word_same}
-use Rattle.far_replay.proofs.Spliced.{with_range_before, with_range_after}
+use Rattle.far_alone.proofs.Spliced.{with_range_before, with_range_after}
 
 module _ (word : ℕ → ℕ) (d len from : ℕ) (bytes : List ℕ) (fits : from + length bytes ≤ len) (some : 0 < length bytes)
     (wide : (a : ℕ) → word a < 2 ^ 64) (pads : (i : ℕ) → i < words_for len → word (d + i) < 2 ^ (8 * (len - 8 * i))) where

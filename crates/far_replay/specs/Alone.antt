@@ -1,27 +1,17 @@
 -- The replies to one mutator's lines, by its own lines alone.
-use Rattle.std.specs.Prelude.{◌≡◌, ◌≢◌, ℕ, ◌+◌, ◌/◌, ◌<◌, ◌≤◌, ◌⊎◌, Bool, true, false, cond, ◌==◌, ◌&&◌, Option, Some, None, List, [], ◌∷◌, length, replicate, slice_range}
+use Rattle.std.specs.Prelude.{◌≡◌, ◌≢◌, ℕ, ◌+◌, ◌/◌, ◌<◌, ◌≤◌, ◌⊎◌, Bool, true, false, ◌==◌, Option, Some, None, List, [], ◌∷◌, length, replicate, slice_range}
 use Rattle.std.specs.Bool.{MatchBool}
 use Rattle.far_word.specs.declared.refused.Refused.TheVariants.{NoRoom, NoPointer, Length, Closed, AlreadyOpen, NotHeld, Range, Held, Device, Damaged, Marked}
 use Rattle.far_word.specs.declared.sizes.TheConstants.{CELLS, LONGEST}
 use Rattle.far_core.specs.state.State.{State, put}
-use Rattle.far_core.specs.world.World.{World, Object}
 use Rattle.far_core.specs.world.WorldOf.{world_of}
 use Rattle.far_book.specs.declared.home.Home.{Home}
 use Rattle.far_book.specs.declared.home.Home.TheVariants.{Near, Far}
 use Rattle.far_text.specs.Command.{Command, New, Open, Write, Read, Close, Where, Drop, View, Try, Epoch, Mutator, Book, Evacuator}
 use Rattle.far_replay.specs.Commanded.{AsksFor}
 use Rattle.far_reply.specs.Reply.{Reply, Done, Pointer, Data, Lies, EpochRead, Refused}
-use Rattle.far_replay.specs.Objects.{with_range}
-
--- what a mutator knows of itself: whether its scope is open, the bytes of its objects, and which of them it views
-pub record Own : Type 0 where
-  pub opened : Bool
-  pub object : ℕ → Option (List ℕ)
-  pub viewed : ℕ → Bool
-
--- at the start its scope is closed, and it has no object and no view
-abbrev pub nothing : Own
-nothing = record { opened = false; object = λ _. None; viewed = λ _. false }
+use Rattle.far_alone.specs.Objects.{with_range}
+use Rattle.far_alone.specs.Own.{Own, own_of}
 
 -- the range is empty, or passes the end
 abbrev pub IsOut : List ℕ → ℕ → ℕ → Type 0
@@ -120,18 +110,6 @@ abbrev pub Alone : Bool → ℕ → Own → List Command → List Reply → Type
 Alone honest m o [] [] = Unit {0}
 Alone honest m o (c ∷ cs) (r ∷ rs) = MatchBool (is_by m (speaker c)) ((q : Own) × KnowsBy honest m o c r q × Alone honest m q cs rs) (Alone honest m o cs rs)
 Alone honest m o _ _ = ⊥
-
--- what a world says of a mutator
-abbrev pub bytes_in_world : Option Object → Option (List ℕ)
-bytes_in_world None = None
-bytes_in_world (Some o) = Some o.bytes
-
-abbrev pub own_of : World → ℕ → Own
-own_of w m = record {
-  opened = w.opened m;
-  object = λ p. cond (p / CELLS == m) (bytes_in_world (w.object p)) None;
-  viewed = λ p. (p / CELLS == m) && w.viewed p;
-}
 
 -- what the mutator m learns of a command: what its reply says, where it is its own; else nothing
 abbrev pub Learns : State → ℕ → Command → Reply → State → Type 0

@@ -1,15 +1,11 @@
 -- The words that the interpreter's own contracts need.
-use Rattle.std.specs.Prelude.{◌≡◌, ℕ, ◌+◌, ◌/◌, ◌<◌, ◌≤◌, Bool, false, true, List, Option, Some, None, IsSome, Result, Ok, Err, IfOk, IfErr, if◌then◌else◌}
+use Rattle.std.specs.Prelude.{◌≡◌, ℕ, ◌+◌, ◌/◌, ◌<◌, ◌≤◌, Bool, false, true, Option, Some, None, IsSome, Result, Ok, Err, IfOk, IfErr}
 use Rattle.far_word.specs.declared.refused.Refused.{Refused as Refusal}
 use Rattle.far_word.specs.declared.mark.Marks.{Marks}
 use Rattle.far_word.specs.declared.sizes.TheConstants.{CELLS, LONGEST}
 use Rattle.far_word.specs.Bytes.{bytes_of}
-use Rattle.far_word.specs.declared.pointer.Place.{Place}
-use Rattle.far_word.specs.declared.pointer.PtrWord.{PtrWord}
-use Rattle.far_word.specs.declared.pointer.PtrWord.TheVariants.{Free, Near, Far}
+use Rattle.far_word.specs.declared.pointer.PtrWord.TheVariants.{Far}
 use Rattle.far_word.specs.Pointer.{read_of}
-use Rattle.far_book.specs.book.Dealing.{order_moved}
-use Rattle.far_book.specs.book.Effects.{order_after}
 use Rattle.far_core.specs.state.State.{State}
 use Rattle.far_evac.specs.EvacOf.{EvacOf}
 use Rattle.far_evac.specs.declared.answers.EvacFault.{EvacFault}
@@ -21,14 +17,14 @@ use Rattle.far_reply.specs.Reply.{Reply}
 use Rattle.far_replay.specs.declared.outcome.Outcome.{Outcome}
 use Rattle.far_replay.specs.declared.outcome.Scratch.{Scratch}
 use Rattle.far_word.specs.declared.refused.Refused.TheVariants.{Damaged, Device, Memory}
-use Rattle.far_replay.specs.Dereference.{RefusesBringing, asked_for, come, comes_to, dereferenced, has_no_room, says_near, sought}
-use Rattle.far_replay.specs.Effects.{is_slow, with_view}
+use Rattle.far_alone.specs.Dereference.{RefusesBringing, asked_for, come, comes_to, dereferenced, has_no_room, order_come, order_dereferenced, says_near}
+use Rattle.far_alone.specs.Effects.{with_view}
 use Rattle.far_core.specs.state.Law.{StoresBack}
 use Rattle.far_replay.specs.Commanded.{KeepsFar, Outside, Serves, Refuses, Gives, Lacks}
 use Rattle.far_replay.specs.Far.{FarBytes, HoldsSame, IsTold, far_in}
 use Rattle.far_replay.specs.Moment.{FarSide, KeepsRound, state_in, with_stored}
 use Rattle.far_replay.specs.Spent.{SpentBy}
-use Rattle.far_replay.specs.Objects.{object_len}
+use Rattle.far_alone.specs.Objects.{object_len}
 
 -- why a call was refused, if it was
 abbrev pub refused_in : {X : Type 0} → Result X Refusal → Option Refusal
@@ -59,20 +55,6 @@ pub record IsViewed (s : State) (a : Access) : Type 0 where
 -- the outcome tells the reply, whatever stands in the buffers
 abbrev pub StandsFor : Outcome → Reply → Type 0
 StandsFor outcome reply = (scratch : Scratch) → reply_by scratch outcome ≡ reply
-
--- the sealed logs once an object has come to a place, oldest first: if another log was opened for it, the one that was open is the youngest
-abbrev pub order_come_of : State → List ℕ → ℕ → Option Place → Option PtrWord → List ℕ
-order_come_of s order p None o = order
-order_come_of s order p (Some place) None = order
-order_come_of s order p (Some place) (Some Free) = order
-order_come_of s order p (Some place) (Some (Near len ds from marks)) = order_moved s p order place
-order_come_of s order p (Some place) (Some (Far len ds marks)) = order_after s order place
-
-abbrev pub order_come : State → List ℕ → ℕ → List ℕ
-order_come s order p = order_come_of s order p (comes_to s p) (read_of (s.cell p))
-
-abbrev pub order_dereferenced : State → List ℕ → ℕ → ℕ → List ℕ
-order_dereferenced s order m p = if is_slow s p then order_come (sought s m p) order p else order
 
 -- ---- the words of an object that is brought
 -- those that the outside gave of it: what was stored, or others

@@ -1,12 +1,8 @@
 pub mod Alone
 pub mod Answers
 pub mod Audit
-pub mod Between
 pub mod Changes
 pub mod Commanded
-pub mod Dereference
-pub mod Effects
-pub mod EventRows
 pub mod Events
 pub mod Far
 pub mod Flawed
@@ -14,7 +10,6 @@ pub mod Interpreter
 pub mod Lawful
 pub mod Moment
 pub mod NotCome
-pub mod Objects
 pub mod Outcome
 pub mod Rounds
 pub mod Spent

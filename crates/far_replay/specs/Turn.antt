@@ -16,10 +16,10 @@ use Rattle.far_book.specs.declared.home.Home.{Home}
 use Rattle.far_evac.specs.Census.{kind_in}
 use Rattle.far_replay.specs.Audit.{counts_of}
 use Rattle.far_text.specs.Command.{Command, New, Open, Write, Read, Close, Where, Drop, View, Try, Epoch, Logs, Log, Audit, Mutator, Book, Evacuator}
-use Rattle.far_replay.specs.Dereference.{dereferenced, has_no_room, sought}
-use Rattle.far_replay.specs.Effects.{with_object, with_epoch, with_scope, with_view, is_slow, with_data, without_object}
+use Rattle.far_alone.specs.Dereference.{dereferenced, has_no_room, sought}
+use Rattle.far_alone.specs.Effects.{with_object, with_epoch, with_scope, with_view, is_slow, with_data, without_object}
 use Rattle.far_replay.specs.Moment.{Moment, with_core}
-use Rattle.far_replay.specs.Objects.{uses, object_len, data_of, lowest_cell, is_range}
+use Rattle.far_alone.specs.Objects.{uses, object_len, data_of, lowest_cell, is_range}
 use Rattle.far_reply.specs.Reply.{Reply, Done, Pointer, Data, Logs as Told, Lies, Audited, EpochRead, Refused}
 use Rattle.far_reply.specs.declared.reply.LogLine.{LogLine}
 use Rattle.far_replay.specs.Rounds.{refused_step, step_causes, step_effect, step_reply}

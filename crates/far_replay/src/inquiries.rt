@@ -7,7 +7,7 @@ ghost use Rattle.far_core.specs.state.Law.{Law};
 ghost use Rattle.far_replay.specs.Audit.{bytes_by_log, lies_near, lies_far, pointers_by};
 ghost use Rattle.far_text.specs.Command.{Mutator, Book as AsksBook, Where, Log, Audit};
 ghost use Rattle.far_replay.specs.Events.{events_for};
-ghost use Rattle.far_replay.specs.EventRows.{after_events};
+ghost use Rattle.far_core.specs.events.Ranges.{after_events};
 ghost use Rattle.far_replay.specs.Moment.{KeepsRound, moment_in, state_in};
 ghost use Rattle.far_replay.specs.Outcome.{reply_by, IsInScratch};
 ghost use Rattle.far_replay.specs.Turn.{log_line, reply_to};

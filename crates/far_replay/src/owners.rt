@@ -8,7 +8,7 @@ ghost use Rattle.far_core.specs.events.Step.{after, answer, step_of};
 ghost use Rattle.far_hand.specs.Makers.{is_owners};
 ghost use Rattle.far_evac.specs.MomentLaw.{MomentLaw};
 ghost use Rattle.far_replay.specs.Moment.{KeepsRound, moment_in, state_in};
-ghost use Rattle.far_replay.specs.Objects.{uses};
+ghost use Rattle.far_alone.specs.Objects.{uses};
 
 use far_book::Plain;
 use far_core::{Core, Event, Reply};

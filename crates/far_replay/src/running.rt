@@ -17,7 +17,7 @@ ghost use Rattle.far_text.specs.Grammar.{trace_of};
 ghost use Rattle.far_text.specs.Command.{Heap};
 ghost use Rattle.far_text.specs.Parsed.{as_trace};
 ghost use Rattle.far_reply.specs.Reply.{Reply as Answer, reply_text};
-ghost use Rattle.far_replay.specs.Between.{Between};
+ghost use Rattle.far_alone.specs.Between.{Between};
 ghost use Rattle.far_evac.specs.MomentLaw.{MomentLaw};
 ghost use Rattle.far_evac.specs.Strays.{NoneStrays};
 

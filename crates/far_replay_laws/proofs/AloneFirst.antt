@@ -6,7 +6,8 @@ use Rattle.far_word.specs.declared.sizes.TheConstants.{CELLS}
 use Rattle.far_core.specs.world.World.{start}
 use Rattle.far_core.specs.world.WorldOf.{world_of}
 use Rattle.far_core.proofs.WorldFacts.{opening_world}
-use Rattle.far_replay.specs.Alone.{Alone, nothing, own_of}
+use Rattle.far_replay.specs.Alone.{Alone}
+use Rattle.far_alone.specs.Own.{nothing, own_of}
 use Rattle.far_core.specs.state.Shape.{is_shape}
 use Rattle.far_text.specs.Command.{Command, Device, Fail, Flawed, Flip, Short}
 use Rattle.far_text.specs.Written.{AllWriteBytes}
@@ -20,7 +21,7 @@ use Rattle.far_replay_laws.specs.Headline.{MutatorsAreAlone}
 use Rattle.far_replay_laws.proofs.AloneLaw.{alone}
 use Rattle.far_replay_laws.proofs.AloneOwn.{alone_own}
 use Rattle.far_replay.proofs.Lasting.{first_lasts}
-use Rattle.far_replay.proofs.AloneRuns.{Own-ext}
+use Rattle.far_alone.proofs.AloneRuns.{Own-ext}
 
 none_seen : (b : Bool) → (b && false) ≡ false
 none_seen true = refl

@@ -10,20 +10,22 @@ use Rattle.far_core.specs.events.Step.{step_of}
 use Rattle.far_core.specs.world.WorldOf.{world_of}
 use Rattle.far_core.proofs.Leaving.{events_leave}
 use Rattle.far_replay.specs.Moment.{Moment, moment_of, as_if_stored}
-use Rattle.far_replay.specs.Alone.{IsIn, Own, Knows, Alone, Learns, own_of, is_by, speaker, KnowsBy}
+use Rattle.far_replay.specs.Alone.{IsIn, Knows, Alone, Learns, is_by, speaker, KnowsBy}
+use Rattle.far_alone.specs.Own.{Own, own_of}
 use Rattle.far_replay.specs.Answers.{Answered, Commanded, Served, Stopped, Unbrought, IsMoment, CommandedBy, Outside, Serves, Refuses, Gives, Lacks}
 use Rattle.far_replay.specs.Commanded.{KeepsFar, AsksFor, Misled}
-use Rattle.far_replay.specs.Objects.{object_len}
+use Rattle.far_alone.specs.Objects.{object_len}
 use Rattle.far_evac.specs.declared.answers.RoundEnd.TheVariants.{Limit}
 use Rattle.far_evac.specs.declared.phase.Phase.TheVariants.{Evacuating}
 use Rattle.far_word.specs.declared.refused.Refused.TheVariants.{Marked, Memory}
-use Rattle.far_replay.proofs.AloneStates.{own_used}
+use Rattle.far_alone.proofs.AloneStates.{own_used}
 use Rattle.far_replay.proofs.Outcomes.{by_outcome, by_lie, by_stop}
 use Rattle.far_replay.proofs.Turns.{access_fact}
-use Rattle.far_replay.specs.Between.{Between}
+use Rattle.far_alone.specs.Between.{Between}
 use Rattle.far_text.specs.Command.{Command, New, Open, Write, Read, Close, Where, Drop, View, Try, Epoch, Mutator, Book, Evacuator, Evacuate, Round}
 use Rattle.far_text.specs.Written.{WritesBytes, AllWriteBytes}
-use Rattle.far_replay.specs.EventRows.{after_events, AllSucceed}
+use Rattle.far_core.specs.events.Ranges.{after_events}
+use Rattle.far_alone.specs.EventRows.{AllSucceed}
 use Rattle.far_reply.specs.Reply.{Reply, Ended, Evacuated, Refused}
 use Rattle.far_replay.specs.Events.{events_for, IsNoStep}
 use Rattle.far_replay.specs.Turn.{effect, refusal, reply_to, unless}

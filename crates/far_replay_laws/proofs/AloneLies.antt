@@ -19,13 +19,14 @@ use Rattle.far_core.specs.world.WorldOf.{object_of, world_of}
 use Rattle.far_core.proofs.Cells.{held_near}
 use Rattle.far_core.proofs.Put.{put_both, put_other, put_same}
 use Rattle.far_text.specs.Command.{Command}
-use Rattle.far_replay.specs.Alone.{IsMisled, Knows, KnowsBy, Own, bytes_in_world, own_of}
+use Rattle.far_replay.specs.Alone.{IsMisled, Knows, KnowsBy}
+use Rattle.far_alone.specs.Own.{Own, bytes_in_world, own_of}
 use Rattle.far_replay.specs.Commanded.{AsksFor, LiesFar, Misled}
 use Rattle.far_replay.specs.Moment.{Moment, as_if_stored, with_stored}
-use Rattle.far_replay.specs.Objects.{named_len, uses}
+use Rattle.far_alone.specs.Objects.{named_len, uses}
 use Rattle.far_reply.specs.Reply.{Reply}
-use Rattle.far_replay.proofs.AloneRuns.{Own-ext}
-use Rattle.far_replay.proofs.AloneStates.{own_used}
+use Rattle.far_alone.proofs.AloneRuns.{Own-ext}
+use Rattle.far_alone.proofs.AloneStates.{own_used}
 
 pub owner_of : (s : State) (m p : ℕ) → uses s m p ≡ true → p / CELLS ≡ m
 owner_of s m p h = eqb-true (p / CELLS) m (and_parts (nat_eq (p / CELLS) m) (s.used p) h).0

@@ -25,21 +25,23 @@ use Rattle.far_core.specs.world.Steps.{Makes}
 use Rattle.far_core.proofs.Cells.{unused}
 use Rattle.far_core.proofs.Keeps.{step_keeps}
 use Rattle.far_replay.specs.Moment.{moment_of}
-use Rattle.far_replay.specs.Alone.{own_of, bytes_in_world, HasAll, HasLeft}
-use Rattle.far_replay.specs.Between.{Between}
+use Rattle.far_alone.specs.Own.{own_of, bytes_in_world}
+use Rattle.far_replay.specs.Alone.{HasAll, HasLeft}
+use Rattle.far_alone.specs.Between.{Between}
 use Rattle.far_text.specs.Command.{New, Mutator}
-use Rattle.far_replay.specs.EventRows.{after_events, AllSucceed}
+use Rattle.far_core.specs.events.Ranges.{after_events}
+use Rattle.far_alone.specs.EventRows.{AllSucceed}
 use Rattle.far_reply.specs.Reply.{Refused}
-use Rattle.far_replay.specs.Events.{new_events, zero_puts}
-use Rattle.far_replay.specs.Objects.{lowest_cell}
-use Rattle.far_replay.specs.Effects.{near_word}
+use Rattle.far_alone.specs.Events.{new_events, zero_puts}
+use Rattle.far_alone.specs.Objects.{lowest_cell}
+use Rattle.far_book.specs.book.Effects.{near_word}
 use Rattle.far_replay.specs.Turn.{refusal, first_cause, unless, pointer_reply}
-use Rattle.far_text.proofs.Each.{Each-row}
-use Rattle.far_replay.proofs.MadeLemmas.{made-append, AllSucceed-parts, AllComeToPass-parts}
+use Rattle.far_alone.proofs.Each.{Each-row}
+use Rattle.far_alone.proofs.MadeLemmas.{made-append, AllSucceed-parts, AllComeToPass-parts}
 use Rattle.far_replay_laws.proofs.AloneViews.{views_still}
 use Rattle.far_replay_laws.proofs.ViewLaws.{row_stays, news}
-use Rattle.far_replay.proofs.AloneRuns.{views_of, Same, own_other, own_here, IsQuiet, quiet_run, name_step, new_object, makes_object, was_legal}
-use Rattle.far_replay.proofs.AloneStates.{all_known, lowest_free, lowest_own, lowest_unknown}
+use Rattle.far_alone.proofs.AloneRuns.{views_of, Same, own_other, own_here, IsQuiet, quiet_run, name_step, new_object, makes_object, was_legal}
+use Rattle.far_alone.proofs.AloneStates.{all_known, lowest_free, lowest_own, lowest_unknown}
 use Rattle.far_replay_laws.proofs.Coming.{new_comes}
 use Rattle.far_replay_laws.proofs.AloneTurns.{Teaches, Turns, four_causes}
 

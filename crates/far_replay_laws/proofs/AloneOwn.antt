@@ -8,11 +8,12 @@ use Rattle.far_core.specs.world.WorldOf.{world_of}
 use Rattle.far_core.proofs.Put.{put_old}
 use Rattle.far_text.specs.Command.{Command}
 use Rattle.far_text.specs.Written.{AllWriteBytes, WritesBytes}
-use Rattle.far_replay.specs.Alone.{Alone, Knows, Own, is_by, own_of, speaker}
+use Rattle.far_replay.specs.Alone.{Alone, Knows, is_by, speaker}
+use Rattle.far_alone.specs.Own.{Own, own_of}
 use Rattle.far_replay.specs.Answers.{AnsweredBy, CommandedBy, Outside, Serves, Refuses, Gives, Lacks}
 use Rattle.far_replay.specs.Commanded.{AsksFor, Misled}
 use Rattle.far_replay.specs.Moment.{Moment, as_if_stored}
-use Rattle.far_replay.specs.Objects.{uses}
+use Rattle.far_alone.specs.Objects.{uses}
 use Rattle.far_reply.specs.Reply.{Reply}
 use Rattle.far_replay.proofs.Lasting.{Lasts, misled_before, misled_lasts, still_lasts}
 use Rattle.far_replay_laws.specs.Lying.{GivenOf, LiesOnce, bytes_in}

@@ -21,29 +21,32 @@ use Rattle.far_core.specs.world.World.{World, Object}
 use Rattle.far_core.specs.world.WorldOf.{world_of}
 use Rattle.far_core.specs.world.Steps.{with_bytes}
 use Rattle.far_replay.specs.Moment.{moment_of}
-use Rattle.far_replay.specs.Alone.{Knows, Own, own_of, bytes_in_world, IsOut, IsIn}
-use Rattle.far_replay.specs.Between.{Between}
+use Rattle.far_replay.specs.Alone.{Knows, IsOut, IsIn}
+use Rattle.far_alone.specs.Own.{Own, own_of, bytes_in_world}
+use Rattle.far_alone.specs.Between.{Between}
 use Rattle.far_text.specs.Command.{Command, Open, Write, Read, Close, Where, Drop, View, Try, Epoch, Mutator}
-use Rattle.far_replay.specs.EventRows.{after_events, AllSucceed}
+use Rattle.far_core.specs.events.Ranges.{after_events}
+use Rattle.far_alone.specs.EventRows.{AllSucceed}
 use Rattle.far_reply.specs.Reply.{Reply, Done, Refused}
-use Rattle.far_replay.specs.Events.{turn_events, refused_events, open_events, view_events, sought_events, store_events, first_word, words_touched}
-use Rattle.far_replay.specs.Objects.{uses, object_len, data_of, with_range, is_range}
+use Rattle.far_replay.specs.Events.{turn_events, refused_events}
+use Rattle.far_alone.specs.Events.{open_events, view_events, sought_events, store_events, first_word, words_touched}
+use Rattle.far_alone.specs.Objects.{uses, object_len, data_of, with_range, is_range}
 use Rattle.far_replay.specs.Turn.{refusal, first_cause, unless, turn_reply, home_reply}
 use Rattle.far_replay_laws.specs.Headline.{ViewsNothing}
 use Rattle.far_replay_laws.proofs.AloneViews.{views_still, views_mine, views_others, views_gone, views_left}
 use Rattle.far_replay_laws.proofs.ViewLaws.{close_views, opens, reads, row_stays}
-use Rattle.far_replay.specs.Dereference.{comes_to, dereferenced, has_no_room, sought}
-use Rattle.far_replay.specs.Effects.{is_slow, with_data, with_view, without_object}
-use Rattle.far_replay_laws.proofs.AloneBytes.{over_with_range}
-use Rattle.far_replay.proofs.Drops.{drop_ends, drop_is, drop_world, own_gone, own_left, unheld_is}
+use Rattle.far_alone.specs.Dereference.{comes_to, dereferenced, has_no_room, sought}
+use Rattle.far_alone.specs.Effects.{is_slow, with_data, with_view, without_object}
+use Rattle.far_alone.proofs.AloneBytes.{over_with_range}
+use Rattle.far_alone.proofs.Drops.{drop_ends, drop_is, drop_world, own_gone, own_left, unheld_is}
 use Rattle.far_replay.proofs.Dereferences.{Derefs, derefs, sought_bytes, sought_held, sought_leads, view_bytes, view_views}
-use Rattle.far_replay.proofs.Leading.{Leads}
+use Rattle.far_alone.proofs.Leading.{Leads}
 use Rattle.far_replay.proofs.Turns.{Access, led, read_leads, stores_lead, write_leads}
-use Rattle.far_replay.proofs.Views.{fast_seen, slow_parts, slow_view, view_is}
-use Rattle.far_replay.proofs.Soiling.{soil_law}
-use Rattle.far_replay.proofs.Spliced.{AreBytes, packed_wide, with_range_bytes}
-use Rattle.far_replay.proofs.AloneRuns.{views_of, SameBytes, bytes_same, Scoped, own_same, own_other, own_here, own_scope, own_scope_other, quiet_run, over_all, stores_run, open_step, close_step}
-use Rattle.far_replay.proofs.AloneStates.{not_outside, open_world, shut_world, range_in, range_out, object_viewed, own_used, own_unused, length-data, data_small}
+use Rattle.far_alone.proofs.Views.{fast_seen, slow_parts, slow_view, view_is}
+use Rattle.far_alone.proofs.Soiling.{soil_law}
+use Rattle.far_alone.proofs.Spliced.{AreBytes, packed_wide, with_range_bytes}
+use Rattle.far_alone.proofs.AloneRuns.{views_of, SameBytes, bytes_same, Scoped, own_same, own_other, own_here, own_scope, own_scope_other, quiet_run, over_all, stores_run, open_step, close_step}
+use Rattle.far_alone.proofs.AloneStates.{not_outside, open_world, shut_world, range_in, range_out, object_viewed, own_used, own_unused, length-data, data_small}
 
 -- the reply tells the mutator what it says, and no other mutator learns anything
 abbrev pub Teaches : State → ℕ → Command → Reply → State → Type 0

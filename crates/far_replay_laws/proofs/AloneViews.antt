@@ -9,7 +9,7 @@ use Rattle.far_core.specs.world.WorldOf.{world_of}
 use Rattle.far_core.proofs.Put.{put_same, put_other}
 use Rattle.far_replay.specs.Changes.{ViewsObject}
 use Rattle.far_replay_laws.specs.Headline.{ViewsNothing}
-use Rattle.far_replay.proofs.AloneRuns.{views_of}
+use Rattle.far_alone.proofs.AloneRuns.{views_of}
 
 -- views that stay
 pub views_still : (s t : State) (m : ℕ) → t.held ≡ s.held → views_of (world_of t) m ≡ views_of (world_of s) m

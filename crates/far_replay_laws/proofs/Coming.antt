@@ -19,20 +19,24 @@ use Rattle.far_core.specs.state.State.{State}
 use Rattle.far_core.specs.events.Step.{step_of, is_legal, is_opened, after, answer, pin_answer}
 use Rattle.far_core.proofs.KeepOwner.{nonzero}
 use Rattle.far_text.specs.Command.{Command, New, Open, Write, Read, Close, Where, Drop, View, Try, Epoch, Mutator, Book, Evacuator}
-use Rattle.far_replay.specs.Dereference.{come, dereferenced, has_no_room, sought}
-use Rattle.far_replay.specs.Effects.{near_word, is_slow}
-use Rattle.far_replay.specs.EventRows.{after_events, ComesToPass, AllComeToPass, AtHand}
-use Rattle.far_replay.specs.Events.{IsNoStep, turn_events, refused_events, zero_puts, new_events, view_events, sought_events, come_events, dereference_events, load_events, soil_events, store_events, first_loads, last_loads, part_events, first_word, words_touched, starts_inside, ends_inside}
+use Rattle.far_alone.specs.Dereference.{come, dereferenced, has_no_room, sought}
+use Rattle.far_book.specs.book.Effects.{near_word}
+use Rattle.far_alone.specs.Effects.{is_slow}
+use Rattle.far_core.specs.events.Ranges.{after_events}
+use Rattle.far_alone.specs.EventRows.{ComesToPass, AllComeToPass, AtHand}
+use Rattle.far_replay.specs.Events.{IsNoStep, turn_events, refused_events}
+use Rattle.far_alone.specs.Events.{zero_puts, new_events, view_events, sought_events, come_events, dereference_events, load_events, soil_events, store_events, first_loads, last_loads, part_events, first_word, words_touched, starts_inside, ends_inside}
 use Rattle.far_replay_laws.specs.Headline.{IsAtHandFor}
 use Rattle.far_replay.specs.Moment.{Moment}
-use Rattle.far_replay.specs.Objects.{uses, object_len, data_of, with_range, lowest_cell, is_range}
+use Rattle.far_alone.specs.Objects.{uses, object_len, data_of, with_range, lowest_cell, is_range}
 use Rattle.far_replay.specs.Turn.{refusal, unless}
-use Rattle.far_replay.proofs.AloneStates.{lowest_free}
-use Rattle.far_replay.proofs.Drops.{drop_comes, unheld_is}
-use Rattle.far_text.proofs.Each.{Each, Each-append, Each-row}
-use Rattle.far_replay.proofs.MadeLemmas.{AllComeToPass-append}
+use Rattle.far_alone.proofs.AloneStates.{lowest_free}
+use Rattle.far_alone.proofs.Drops.{drop_comes, unheld_is}
+use Rattle.std.specs.List.{AllByRecursion as Each}
+use Rattle.far_alone.proofs.Each.{Each-append, Each-row}
+use Rattle.far_alone.proofs.MadeLemmas.{AllComeToPass-append}
 use Rattle.far_replay.proofs.Turns.{access_fact, room_lacks, room_last, three, tried, marked_last}
-use Rattle.far_replay.proofs.Views.{ready_of, Ready-view, hand_has_room, hand_is_fast}
+use Rattle.far_alone.proofs.Views.{ready_of, Ready-view, hand_has_room, hand_is_fast}
 
 -- ---- events that any answer serves
 abbrev IsSure : Event → Type 0

@@ -8,7 +8,7 @@ use Rattle.far_core.specs.events.Step.{is_opened, scope_word_of}
 use Rattle.far_core.specs.state.State.{State}
 use Rattle.far_core.proofs.Put.{put_same}
 use Rattle.far_text.specs.Command.{Open, Close, Epoch, Mutator}
-use Rattle.far_replay.specs.Effects.{epoch_for}
+use Rattle.far_alone.specs.Effects.{epoch_for}
 use Rattle.far_replay_laws.specs.Headline.{EpochsAreTold, ScopesOpenAtEpochs, ClosesForget}
 use Rattle.far_replay.specs.Moment.{Moment}
 use Rattle.far_reply.specs.Reply.{Done, Refused}

@@ -15,7 +15,7 @@ use Rattle.far_evac.specs.declared.answers.Progress.{Progress}
 use Rattle.far_text.specs.Command.{Command, Device, Flawed, Fail, Short, Flip, Trace, New, Where, Logs, Mutator, Book, Evacuator, Select}
 use Rattle.far_replay.specs.Answers.{AnsweredBy, ByDevice, FlawedAtMost, IsOutput, Outside, Serves, Refuses, Gives, Lacks, Served, Stopped, MisledBy, first_moment, flaws, is_true, lie_of, opened, shape_of}
 use Rattle.far_replay.specs.Moment.{Moment, as_if_stored}
-use Rattle.far_replay.specs.Objects.{lowest_cell}
+use Rattle.far_alone.specs.Objects.{lowest_cell}
 use Rattle.far_reply.specs.Reply.{Reply, Refused, Halted, reply_text}
 use Rattle.far_replay.specs.Turn.{home_reply, pointer_reply, refusal, turn_reply, unless}
 use Rattle.far_text.specs.Written.{AllWriteBytes}

@@ -22,10 +22,10 @@ use Rattle.far_policy.specs.Scripted.{is_bad, judged}
 use Rattle.far_text.specs.Command.{Command, New, Write, Read, Drop, View, Try, Logs, Log, Audit, Mutator, Book, Evacuator, Step, By, Script, Select, Wait, Round}
 use Rattle.far_replay.specs.Answers.{IsMoment, Served, Unbrought}
 use Rattle.far_replay.specs.Commanded.{LiesFar}
-use Rattle.far_replay.specs.Dereference.{comes_to, has_no_room, sought, sought_of}
-use Rattle.far_replay.specs.Effects.{is_slow, with_view}
+use Rattle.far_alone.specs.Dereference.{comes_to, has_no_room, sought, sought_of}
+use Rattle.far_alone.specs.Effects.{is_slow, with_view}
 use Rattle.far_replay.specs.Moment.{Moment}
-use Rattle.far_replay.specs.Objects.{uses}
+use Rattle.far_alone.specs.Objects.{uses}
 use Rattle.far_reply.specs.Reply.{Reply, Refused}
 use Rattle.far_replay.specs.Rounds.{choice_causes, rows_in, step_causes, wait_causes}
 use Rattle.far_replay.specs.Turn.{causes, refusal, turn_reply}

@@ -10,13 +10,14 @@ use Rattle.far_core.specs.world.WorldOf.{world_of}
 use Rattle.far_core.proofs.Put.{put_other, put_same}
 use Rattle.far_text.specs.Command.{Command, Write, Read, View, Mutator}
 use Rattle.far_text.specs.Written.{AllWriteBytes, WritesBytes}
-use Rattle.far_replay.specs.Alone.{Knows, Own, bytes_in_world, own_of}
+use Rattle.far_replay.specs.Alone.{Knows}
+use Rattle.far_alone.specs.Own.{Own, bytes_in_world, own_of}
 use Rattle.far_replay.specs.Answers.{AnsweredBy, CommandedBy, IsMoment, Outside, Serves, Refuses, Gives, Lacks}
 use Rattle.far_replay.specs.Commanded.{AsksFor, Misled}
 use Rattle.far_replay.specs.Moment.{Moment, as_if_stored}
-use Rattle.far_replay.specs.Objects.{named_len, uses, with_range}
+use Rattle.far_alone.specs.Objects.{named_len, uses, with_range}
 use Rattle.far_reply.specs.Reply.{Reply, Done, Data}
-use Rattle.far_replay.proofs.AloneStates.{own_used}
+use Rattle.far_alone.proofs.AloneStates.{own_used}
 use Rattle.far_replay.proofs.Lasting.{Lasts, misled_before, misled_lasts, moment_lasts, next_is_moment}
 use Rattle.far_replay.proofs.Outcomes.{by_lie}
 use Rattle.far_replay_laws.specs.OtherBytes.{AllGiven, ChangesObject, GivenBy, IsGiven, LiesChangeOneObject, TellsBytes, bytes_made}

@@ -17,16 +17,17 @@ use Rattle.far_core.proofs.Put.{put_other, put_same}
 use Rattle.far_text.specs.Command.{Command, New, Open, Write, Read, Close, Where, Drop, View, Try, Epoch, Mutator, Book, Evacuator}
 use Rattle.far_text.specs.Written.{WritesBytes}
 use Rattle.far_reply.specs.Reply.{Reply, Done, Pointer, Data, Lies, EpochRead, Refused}
-use Rattle.far_replay.specs.Alone.{Knows, Own, bytes_in_world, is_by, own_of, speaker}
+use Rattle.far_replay.specs.Alone.{Knows, is_by, speaker}
+use Rattle.far_alone.specs.Own.{Own, bytes_in_world, own_of}
 use Rattle.far_replay.specs.Answers.{CommandedBy, IsMoment, Outside, Serves, Refuses, Gives, Lacks, Served}
-use Rattle.far_replay.specs.Effects.{without_object}
+use Rattle.far_alone.specs.Effects.{without_object}
 use Rattle.far_replay.specs.Events.{IsNoStep}
 use Rattle.far_replay.specs.Far.{FarBytes, HoldsBy}
 use Rattle.far_replay.specs.Moment.{Moment}
-use Rattle.far_replay.specs.Objects.{uses, with_range}
+use Rattle.far_alone.specs.Objects.{uses, with_range}
 use Rattle.far_replay.specs.Turn.{first_cause, refusal, refused_effect, turn_effect, unless}
-use Rattle.far_replay.proofs.AloneStates.{object_used}
-use Rattle.far_replay.proofs.Drops.{drop_is, unheld_is}
+use Rattle.far_alone.proofs.AloneStates.{object_used}
+use Rattle.far_alone.proofs.Drops.{drop_is, unheld_is}
 use Rattle.far_replay.proofs.Lasting.{moment_lasts, next_is_moment}
 use Rattle.far_replay_laws.specs.LeftBeside.{LeavesBeside}
 use Rattle.far_replay_laws.specs.LeftMarks.{GainsDirty, GainsForRoom, GainsHot, LeavesHot, LeavesMarks, LeavesWritten, OthersStay, RefusedLeaves, TryLeaves}

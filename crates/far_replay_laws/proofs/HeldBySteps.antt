@@ -14,7 +14,7 @@ use Rattle.far_core.specs.world.World.{Object}
 use Rattle.far_core.specs.world.WorldOf.{world_of}
 use Rattle.far_core.proofs.Cells.{unused}
 use Rattle.far_text.specs.Command.{Evacuator, Step, Mark, Evacuate, Abort, Round}
-use Rattle.far_replay.specs.Alone.{bytes_in_world}
+use Rattle.far_alone.specs.Own.{bytes_in_world}
 use Rattle.far_replay.specs.Answers.{Commanded, IsMoment}
 use Rattle.far_replay.specs.Commanded.{LiesFar}
 use Rattle.far_replay.specs.Far.{FarBytes, HoldsBy, WentFar}

@@ -42,13 +42,14 @@ use Rattle.far_core.proofs.Quieting.{quiet_unheld}
 use Rattle.far_text.specs.Command.{Command}
 use Rattle.far_text.specs.Written.{WritesBytes}
 use Rattle.far_replay.specs.Answers.{Served, IsMoment, Begins, Comes, Stores}
-use Rattle.far_replay.specs.EventRows.{AllPass, after_events}
+use Rattle.far_alone.specs.EventRows.{AllPass}
+use Rattle.far_core.specs.events.Ranges.{after_events}
 use Rattle.far_replay_laws.specs.LeftMarks.{ViewedAreHot, is_hot}
 use Rattle.far_replay.specs.Moment.{Moment}
 use Rattle.far_reply.specs.Reply.{Reply}
 use Rattle.far_replay.proofs.Drops.{viewed_is}
 use Rattle.far_replay.proofs.Lasting.{moment_lasts}
-use Rattle.far_replay.proofs.MadeLemmas.{legal_step}
+use Rattle.far_alone.proofs.MadeLemmas.{legal_step}
 use Rattle.far_replay_laws.proofs.ViewLaws.{served_reach}
 
 -- what is held is hot

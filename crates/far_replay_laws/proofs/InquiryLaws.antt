@@ -27,7 +27,7 @@ use Rattle.far_text.specs.Command.{Where, Logs as AsksLogs, Log, Audit, Mutator,
 use Rattle.far_replay_laws.specs.HowMany.{IsHowMany}
 use Rattle.far_replay_laws.specs.Headline.{TellsHome, IsNearObject, IsFarObject, CountsAll}
 use Rattle.far_replay.specs.Moment.{Moment}
-use Rattle.far_replay.specs.Objects.{uses}
+use Rattle.far_alone.specs.Objects.{uses}
 use Rattle.far_reply.specs.declared.reply.Counts.{Counts}
 use Rattle.far_reply.specs.declared.reply.LogLine.{LogLine}
 use Rattle.far_reply.specs.Reply.{Reply, Logs, Lies, Audited, Refused}

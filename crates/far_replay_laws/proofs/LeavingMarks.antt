@@ -21,27 +21,28 @@ use Rattle.far_text.specs.Command.{Command, Write, Read, View, Try, Mutator}
 use Rattle.far_replay.specs.Answers.{Commanded, Served, Unbrought, IsMoment}
 use Rattle.far_replay.specs.Commanded.{KeepsFar}
 use Rattle.far_replay.proofs.Outcomes.{by_outcome}
-use Rattle.far_replay.specs.Dereference.{come, comes_to, dereferenced, has_no_room, sought}
-use Rattle.far_replay.specs.Effects.{is_slow, with_data, with_view}
-use Rattle.far_replay.specs.Events.{come_events}
+use Rattle.far_alone.specs.Dereference.{come, comes_to, dereferenced, has_no_room, sought}
+use Rattle.far_alone.specs.Effects.{is_slow, with_data, with_view}
+use Rattle.far_alone.specs.Events.{come_events}
 use Rattle.far_replay.specs.Taking.{LacksRoom}
 use Rattle.far_replay_laws.specs.LeftMarks.{GainsDirty, GainsForRoom, GainsHot, IsHotAlone, LeavesHot, LeavesMarks, LeavesWritten, OthersStay, RefusedLeaves, TryLeaves, is_hot}
 use Rattle.far_replay.specs.Moment.{Moment, as_if_stored, with_stored}
-use Rattle.far_replay.specs.Objects.{uses}
+use Rattle.far_alone.specs.Objects.{uses}
 use Rattle.far_reply.specs.Reply.{Reply, Refused}
 use Rattle.far_replay.specs.Turn.{access_causes, causes, first_cause, refusal, unless, turn_effect, refused_effect, turn_reply, reply_to}
-use Rattle.far_replay.proofs.Bringing.{asked_keeps, brought_keeps, slow_unheld}
+use Rattle.far_alone.proofs.Bringing.{asked_keeps, brought_keeps, slow_unheld}
 use Rattle.far_replay.proofs.Brought.{brought}
 use Rattle.far_replay.proofs.Dereferences.{derefs, sought_lacks, sought_law, sought_may, sought_word}
-use Rattle.far_replay.proofs.Drops.{unheld_is, viewed_is}
+use Rattle.far_alone.proofs.Drops.{unheld_is}
+use Rattle.far_replay.proofs.Drops.{viewed_is}
 use Rattle.far_replay_laws.proofs.HotViews.{moment_hot}
 use Rattle.far_replay.proofs.Lasting.{moment_lasts, misled_from}
-use Rattle.far_replay.proofs.Leading.{leads_law}
+use Rattle.far_alone.proofs.Leading.{leads_law}
 use Rattle.far_replay_laws.proofs.Refusals.{among, of_far}
-use Rattle.far_replay.proofs.Soiling.{soiled_reads}
+use Rattle.far_alone.proofs.Soiling.{soiled_reads}
 use Rattle.far_replay.proofs.TakingView.{asked_word}
 use Rattle.far_replay.proofs.Turns.{access_fact, tried}
-use Rattle.far_replay.proofs.Views.{anew_is, fast_dereference, fast_seen, Already, Anew, Seen, pin_read, slow_parts}
+use Rattle.far_alone.proofs.Views.{anew_is, fast_dereference, fast_seen, Already, Anew, Seen, pin_read, slow_parts}
 use Rattle.far_replay_laws.proofs.Misleading.{as_misled}
 use Rattle.far_core.specs.world.WorldOf.{world_of}
 

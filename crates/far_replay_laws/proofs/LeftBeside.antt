@@ -33,13 +33,13 @@ use Rattle.far_book.proofs.region.Places.{named_is}
 use Rattle.far_evac.proofs.StepsAside.{layout}
 use Rattle.far_replay.specs.Answers.{Commanded, Served, IsMoment}
 use Rattle.far_replay.proofs.Outcomes.{by_outcome}
-use Rattle.far_replay.specs.Dereference.{come, come_of, comes_to, dereferenced, has_no_room, sought, sought_of}
-use Rattle.far_replay.specs.Effects.{is_slow, with_data, with_epoch, with_object, with_scope, with_view, without_object}
+use Rattle.far_alone.specs.Dereference.{come, come_of, comes_to, dereferenced, has_no_room, sought, sought_of}
+use Rattle.far_alone.specs.Effects.{is_slow, with_data, with_epoch, with_object, with_scope, with_view, without_object}
 use Rattle.far_replay.specs.Moment.{Moment, with_core, as_if_stored, with_stored}
-use Rattle.far_replay.specs.Objects.{lowest_cell}
+use Rattle.far_alone.specs.Objects.{lowest_cell}
 use Rattle.far_reply.specs.Reply.{Reply, Pointer, Refused}
 use Rattle.far_replay.specs.Turn.{access_causes, causes, first_cause, pointer_reply, refusal, refused_effect, reply_to, turn_effect, turn_reply, unless, with_new}
-use Rattle.far_replay.proofs.AloneStates.{lowest_free}
+use Rattle.far_alone.proofs.AloneStates.{lowest_free}
 use Rattle.far_replay.proofs.Lasting.{moment_lasts, misled_from}
 use Rattle.far_replay.proofs.Turns.{new_tests}
 use Rattle.far_text.specs.Command.{Command, New, Open, Write, Read, Close, Where, Drop, View, Try, Epoch, Mutator, Book, Evacuator}

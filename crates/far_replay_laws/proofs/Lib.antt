@@ -1,6 +1,5 @@
 pub mod AgesKept
 pub mod AllSaid
-pub mod AloneBytes
 pub mod AloneFirst
 pub mod AloneLaw
 pub mod AloneLies

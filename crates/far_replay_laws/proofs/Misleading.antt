@@ -5,9 +5,9 @@ use Rattle.far_word.specs.declared.refused.Refused.TheVariants.{NoRoom, Closed, 
 use Rattle.far_core.specs.events.Step.{is_opened}
 use Rattle.far_text.specs.Command.{Command, Write, Read, View, Mutator}
 use Rattle.far_replay.specs.Commanded.{AsksFor, Misled, MisledBy}
-use Rattle.far_replay.specs.Dereference.{dereferenced, has_no_room}
+use Rattle.far_alone.specs.Dereference.{dereferenced, has_no_room}
 use Rattle.far_replay.specs.Moment.{Moment, as_if_stored}
-use Rattle.far_replay.specs.Objects.{data_of, uses}
+use Rattle.far_alone.specs.Objects.{data_of, uses}
 use Rattle.far_reply.specs.Reply.{Reply, Done, Data, Refused}
 use Rattle.far_replay.specs.Turn.{refusal, turn_reply, unless}
 use Rattle.far_replay.proofs.Turns.{access_fact, tried}

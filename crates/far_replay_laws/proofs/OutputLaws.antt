@@ -28,14 +28,15 @@ use Rattle.far_core.proofs.Cells.{map_mark, object_of-mark}
 use Rattle.far_core.proofs.Marking.{read_mark}
 use Rattle.far_core.specs.world.WorldOf.{object_of}
 use mathlib.Core.Path.{fun_ext}
-use Rattle.far_replay.specs.Dereference.{asked_for, comes_to, has_no_room, sought, sought_of}
+use Rattle.far_alone.specs.Dereference.{asked_for, comes_to, has_no_room, sought, sought_of}
 use Rattle.far_core.proofs.KeepOwner.{hot_read}
 use Rattle.far_core.proofs.Put.{put_both, put_other, put_same}
 use Rattle.far_book.proofs.region.Calls.{put_put}
-use Rattle.far_replay.specs.Effects.{is_slow, with_view}
-use Rattle.far_replay.proofs.AloneRuns.{quiet_run, quiet_view}
+use Rattle.far_alone.specs.Effects.{is_slow, with_view}
+use Rattle.far_alone.proofs.AloneRuns.{quiet_run, quiet_view}
 use Rattle.far_replay.specs.Moment.{Moment, with_core, as_if_stored}
-use Rattle.far_replay.specs.Alone.{Alone, KnowsBy, Own}
+use Rattle.far_replay.specs.Alone.{Alone, KnowsBy}
+use Rattle.far_alone.specs.Own.{Own}
 use Rattle.far_replay.specs.Answers.{Answered, AnsweredBy, Commanded, Outside, Serves, Served, IsMoment, IsOutput, shape_of, first_moment, flaws, gives_some, is_true, lie_of, ByDevice, FlawedAtMost, opened}
 use Rattle.far_replay.specs.Commanded.{KeepsFar}
 use Rattle.far_text.specs.Command.{Command, Trace, Nothing, Heap, New, Open, Write, Read, Close, Where, Drop, View, Try, Epoch, Logs, Mutator, Book, Evacuator, Step, Wait, Device as SaidDevice}
@@ -44,11 +45,13 @@ use Rattle.far_replay_laws.specs.Headline.{EachTextIsAnswered, HeapsBeginLawful,
 use Rattle.far_replay_laws.specs.FromOutside.{NoneLacks}
 use Rattle.far_replay_laws.proofs.Failures.{served_silent}
 use Rattle.far_text.specs.Written.{AllWriteBytes}
-use Rattle.far_replay.specs.EventRows.{after_events, AllSucceed}
+use Rattle.far_core.specs.events.Ranges.{after_events}
+use Rattle.far_alone.specs.EventRows.{AllSucceed}
 use Rattle.far_reply.specs.declared.reply.LogLine.{LogLine}
 use Rattle.far_reply.specs.Reply.{Reply, Pointer, Refused, reply_text}
-use Rattle.far_replay.specs.Events.{turn_events, view_events, events_for, new_events}
-use Rattle.far_replay.specs.Objects.{is_range, lowest_cell, object_len, uses, with_range}
+use Rattle.far_replay.specs.Events.{turn_events, events_for}
+use Rattle.far_alone.specs.Events.{view_events, new_events}
+use Rattle.far_alone.specs.Objects.{is_range, lowest_cell, object_len, uses, with_range}
 use Rattle.far_word.specs.declared.mark.Marks.{Marks}
 use Rattle.far_word.specs.declared.pointer.PtrWord.{PtrWord}
 use Rattle.far_word.specs.declared.pointer.PtrWord.TheVariants.{Near, Far}
@@ -60,13 +63,13 @@ use Rattle.far_replay_laws.proofs.AloneNew.{new_run, is_structure, is_length}
 use Rattle.far_replay.proofs.Outcomes.{by_outcome}
 use Rattle.far_replay_laws.proofs.Kept.{whole}
 use Rattle.far_replay.proofs.Lasting.{first_lawful, command_carried, moment_lasts, each_is_moment}
-use Rattle.far_replay.proofs.Lowest.{lowest_cell_is, no_cell_is}
+use Rattle.far_alone.proofs.Lowest.{lowest_cell_is, no_cell_is}
 use Rattle.far_replay_laws.proofs.Refusals.{not_halted, turn_is_no_refusal, from_cause, of_far}
 use Rattle.far_replay.proofs.RoundLeads.{cell_same, same_clear, stays_same, step_stays}
 use Rattle.far_replay.proofs.WithCore.{same_order}
-use Rattle.far_replay.proofs.Spliced.{length-with_range, with_range_before, with_range_inside, with_range_after}
+use Rattle.far_alone.proofs.Spliced.{length-with_range, with_range_before, with_range_inside, with_range_after}
 use Rattle.far_replay.proofs.Turns.{marked_last, room_lacks, room_last, new_tests}
-use Rattle.far_replay.proofs.Views.{view_is, view_law, slow_view}
+use Rattle.far_alone.proofs.Views.{view_is, view_law, slow_view}
 use Rattle.far_device.specs.declared.liar.Lie.{Lie}
 
 -- ---- each text has an output

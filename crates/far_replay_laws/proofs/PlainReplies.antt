@@ -1,7 +1,7 @@
 -- Each reply of a heap is told in full by its lines.
 use Rattle.std.proofs.Common.{◌≡◌, ℕ, zero, suc, ◌+◌, ◌-◌, ◌*◌, ◌<◌, ◌≤◌, nat_lt, not, refl, sym, subst, ap, arith, inl, inr, Option, Some, None, List, [], ◌∷◌, map, length, drop, false}
 use Rattle.std.specs.Prelude.{slice_range, All, sum, sum_by}
-use Rattle.std.specs.List.{range_with_len, AllByRecursion}
+use Rattle.std.specs.List.{range_with_len, AllByRecursion, AllByRecursion as Each}
 use Rattle.std.proofs.Math.Nat.{min-le_left}
 use Rattle.std.proofs.lemmas.Bool.{cases_lt, cond_both}
 use Rattle.std.proofs.lemmas.Bool.Decides.{nat_tests}
@@ -29,16 +29,16 @@ use Rattle.far_replay.proofs.Outcomes.{by_outcome}
 use Rattle.far_replay.specs.Audit.{counts_of, lies_near, lies_far, bytes_by_log}
 use Rattle.far_text.specs.Command.{Command, New, Write, Read, Where, Drop, View, Try, Epoch, Logs, Log, Audit, Mutator, Book, Evacuator, Evacuate}
 use Rattle.far_replay_laws.specs.Headline.{IsToldInFull, IsLineToldInFull, AreToldInFull, IsRefusalToldInFull}
-use Rattle.far_replay.specs.Dereference.{dereferenced}
+use Rattle.far_alone.specs.Dereference.{dereferenced}
 use Rattle.far_replay.specs.Moment.{Moment, as_if_stored}
-use Rattle.far_replay.specs.Objects.{lowest_cell, data_of}
+use Rattle.far_alone.specs.Objects.{lowest_cell, data_of}
 use Rattle.far_reply.specs.declared.reply.LogLine.{LogLine}
 use Rattle.far_reply.specs.Reply.{Reply, Audited, Evacuated, Refused}
 use Rattle.far_replay.specs.Turn.{causes, refusal, reply_to, unless, turn_reply, log_line, pointer_reply, home_reply}
 use Rattle.far_text.specs.Written.{AllWriteBytes, WritesBytes}
 use Rattle.far_replay_laws.proofs.AloneNew.{is_structure}
-use Rattle.far_replay.proofs.AloneStates.{lowest_own, data_small}
-use Rattle.far_text.proofs.Each.{Each, Each-row}
+use Rattle.far_alone.proofs.AloneStates.{lowest_own, data_small}
+use Rattle.far_alone.proofs.Each.{Each-row}
 use Rattle.far_text.proofs.Parts.{range_get}
 use Rattle.far_replay.proofs.Lasting.{Lasts, still_lasts, misled_before}
 use Rattle.far_replay_laws.proofs.PlainRounds.{filter_shorter, plain_step, plain_step_causes, plain_stop}

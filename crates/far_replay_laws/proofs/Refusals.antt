@@ -1,7 +1,7 @@
 -- Which refusals a command may have.
 use Rattle.std.proofs.Common.{◌≢◌, ◌≡◌, ℕ, ◌/◌, Bool, true, false, not, nat_eq, sym, ap, ◌∙◌, subst, Option, Some, None, List, [], ◌∷◌, length}
 use Rattle.std.proofs.lemmas.Bool.{and_parts, cond_both, not-false, true≢false}
-use Rattle.std.specs.List.{find, range_with_len}
+use Rattle.std.specs.List.{find, range_with_len, AllByRecursion as Each}
 use Rattle.far_word.specs.declared.refused.Refused.{Refused as Refusal}
 use Rattle.far_word.specs.declared.sizes.TheConstants.{CELLS}
 use Rattle.far_core.proofs.Cells.{unused}
@@ -21,18 +21,17 @@ use Rattle.far_replay.proofs.Outcomes.{by_outcome}
 use Rattle.far_text.specs.Command.{Command, New, Write, Read, Where, Drop, View, Try, Logs, Log, Audit, Mutator, Book, Evacuator, Step, By, Script, Select, Wait, Round}
 use Rattle.far_replay_laws.specs.Headline.{IsAtHandFor, MayRefuse}
 use Rattle.far_reply.specs.Reply.{Reply, Refused, Halted}
-use Rattle.far_replay.specs.Dereference.{has_no_room}
-use Rattle.far_replay.specs.Effects.{is_slow}
-use Rattle.far_replay.specs.EventRows.{AtHand}
-use Rattle.far_replay.specs.Objects.{uses, lowest_cell}
+use Rattle.far_alone.specs.Dereference.{has_no_room}
+use Rattle.far_alone.specs.Effects.{is_slow}
+use Rattle.far_alone.specs.EventRows.{AtHand}
+use Rattle.far_alone.specs.Objects.{uses, lowest_cell}
 use Rattle.far_evac.specs.declared.answers.Polled.{Polled}
 use Rattle.far_evac.specs.declared.answers.Polled.TheVariants as polls
 use Rattle.far_policy.specs.Scripted.{is_bad, judged}
 use Rattle.far_evac.specs.Waiting.{polled}
 use Rattle.far_replay.specs.Rounds.{choice_causes, rows_in, step_causes, wait_causes}
 use Rattle.far_replay.specs.Turn.{causes, first_cause, refusal, unless, turn_reply, pointer_reply, home_reply}
-use Rattle.far_text.proofs.Each.{Each}
-use Rattle.far_replay.proofs.Views.{hand_has_room, hand_is_fast}
+use Rattle.far_alone.proofs.Views.{hand_has_room, hand_is_fast}
 
 -- P holds of the refusal of each cause
 abbrev pub EachCause : (Refusal → Type 0) → List (Bool × Refusal) → Type 0

@@ -30,17 +30,18 @@ use Rattle.far_book.specs.book.Fetching.{far_len}
 use Rattle.far_book.proofs.region.Owns.{own_law}
 use Rattle.far_book.proofs.region.SealedKept.{one_cell, sealed_logs_kept}
 use Rattle.far_text.specs.Command.{Command, New, Open, Write, Read, Close, Drop, View, Try, Epoch, Mutator, Evacuator}
-use Rattle.far_replay.specs.Dereference.{come, come_of, comes_to, comes_to_of, dereferenced, has_no_room, sought, sought_of}
-use Rattle.far_replay.specs.Effects.{is_slow, with_data, with_epoch, with_object, with_scope, with_view, without_object}
-use Rattle.far_replay.specs.Events.{IsNoStep, come_events, view_events}
+use Rattle.far_alone.specs.Dereference.{come, come_of, comes_to, comes_to_of, dereferenced, has_no_room, sought, sought_of}
+use Rattle.far_alone.specs.Effects.{is_slow, with_data, with_epoch, with_object, with_scope, with_view, without_object}
+use Rattle.far_replay.specs.Events.{IsNoStep}
+use Rattle.far_alone.specs.Events.{come_events, view_events}
 use Rattle.far_replay.specs.Moment.{Moment}
-use Rattle.far_replay.specs.Objects.{is_range, lowest_cell, object_len, uses}
+use Rattle.far_alone.specs.Objects.{is_range, lowest_cell, object_len, uses}
 use Rattle.far_replay.specs.Turn.{effect, refusal, refused_effect, turn_effect, unless, with_new}
 use Rattle.far_replay.proofs.Brought.{MayBring, brought}
 use Rattle.far_replay.proofs.Dereferences.{derefs, sought_law, sought_may, view_leads}
-use Rattle.far_replay.proofs.Drops.{drop_is, unheld_is}
-use Rattle.far_replay.proofs.Leading.{leads_law}
-use Rattle.far_replay.proofs.Lowest.{lowest_cell_is}
+use Rattle.far_alone.proofs.Drops.{drop_is, unheld_is}
+use Rattle.far_alone.proofs.Leading.{leads_law}
+use Rattle.far_alone.proofs.Lowest.{lowest_cell_is}
 use Rattle.far_replay.proofs.Turns.{five, four, marked_last, new_sizes, room_lacks, room_last, three, tried}
 
 -- ---- what leaves them

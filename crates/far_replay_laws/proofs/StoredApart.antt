@@ -31,17 +31,21 @@ use Rattle.far_core.proofs.Copied.{copied_same}
 use Rattle.far_core.proofs.Cells.{map_mark}
 use Rattle.far_core.proofs.Leaving.{events_leave}
 use Rattle.far_text.specs.Command.{Command}
-use Rattle.far_text.proofs.Each.{Each, Each-append, Each-row}
+use Rattle.std.specs.List.{AllByRecursion as Each}
+use Rattle.far_alone.proofs.Each.{Each-append, Each-row}
 use Rattle.far_replay.specs.Commanded.{AsksFor, LiesFar}
-use Rattle.far_replay.specs.Dereference.{come, comes_to, dereferenced, sought, sought_of}
-use Rattle.far_replay.specs.Effects.{is_slow, near_word, with_view}
-use Rattle.far_replay.specs.EventRows.{AllSucceed, Succeeds, after_events}
-use Rattle.far_replay.specs.Events.{asked_events, asked_events_of, come_events, come_events_of, dereference_events, ends_inside, events_for, first_loads, first_word, last_loads, load_events, name_events, part_events, refused_events, soil_events, sought_events, span_events, starts_inside, store_events, turn_events, view_events, words_touched}
+use Rattle.far_alone.specs.Dereference.{come, comes_to, dereferenced, sought, sought_of}
+use Rattle.far_alone.specs.Effects.{is_slow, with_view}
+use Rattle.far_book.specs.book.Effects.{near_word}
+use Rattle.far_alone.specs.EventRows.{AllSucceed, Succeeds}
+use Rattle.far_core.specs.events.Ranges.{after_events}
+use Rattle.far_alone.specs.Events.{asked_events, asked_events_of, come_events, come_events_of, dereference_events, ends_inside, first_loads, first_word, last_loads, load_events, name_events, part_events, soil_events, sought_events, span_events, starts_inside, store_events, view_events, words_touched}
+use Rattle.far_replay.specs.Events.{events_for, refused_events, turn_events}
 use Rattle.far_replay.specs.Moment.{Moment, with_stored}
-use Rattle.far_replay.specs.Objects.{data_of, uses, with_range}
+use Rattle.far_alone.specs.Objects.{data_of, uses, with_range}
 use Rattle.far_replay.specs.Turn.{refusal, unless}
 use Rattle.far_replay.proofs.AsIfStored.{as_it_was}
-use Rattle.far_replay.proofs.Views.{pin_read, slow_view}
+use Rattle.far_alone.proofs.Views.{pin_read, slow_view}
 use Rattle.far_replay_laws.proofs.Misleading.{by_asked}
 
 -- ---- events that store nothing

@@ -34,23 +34,23 @@ use Rattle.far_replay.specs.Commanded.{KeepsFar}
 use Rattle.far_replay.proofs.Outcomes.{by_outcome}
 use Rattle.far_replay_laws.proofs.Stops.{left_some, stood_so}
 use Rattle.far_text.specs.Command.{Command, New, Open, Write, Read, Close, Where, Drop, View, Try, Epoch, Mutator, Book, Evacuator, Evacuate, Round}
-use Rattle.far_replay.specs.Dereference.{comes_to, dereferenced, has_no_room, sought}
-use Rattle.far_replay.specs.Effects.{is_slow, with_data, with_epoch, with_object, with_scope, without_object}
+use Rattle.far_alone.specs.Dereference.{comes_to, dereferenced, has_no_room, sought}
+use Rattle.far_alone.specs.Effects.{is_slow, with_data, with_epoch, with_object, with_scope, without_object}
 use Rattle.far_replay_laws.specs.Headline.{CommandTakes, TakesRoom}
 use Rattle.far_replay.specs.Taking.{BytesMove, DereferenceLacks, DropTakes, TakesNone, BringTakes, DereferenceTakes, TakesSpan}
 use Rattle.far_replay.specs.Moment.{Moment, moment_of, as_if_stored, with_stored}
-use Rattle.far_replay.specs.Objects.{data_of, is_range, lowest_cell, object_len, uses, with_range}
+use Rattle.far_alone.specs.Objects.{data_of, is_range, lowest_cell, object_len, uses, with_range}
 use Rattle.far_reply.specs.Reply.{Reply, Evacuated, Refused}
 use Rattle.far_replay.specs.Turn.{refusal, unless, turn_effect, refused_effect, turn_reply, reply_to, pointer_reply, with_new}
-use Rattle.far_replay.proofs.Drops.{drop_is, unheld_is}
+use Rattle.far_alone.proofs.Drops.{drop_is, unheld_is}
 use Rattle.far_replay.proofs.Dereferences.{derefs, sought_lacks}
 use Rattle.far_replay.proofs.Lasting.{moment_lasts, misled_from}
 use Rattle.far_replay.proofs.LogBytes.{bytes_move, celled_takes, headed_takes, move_then, names_at, names_one, none_taken, worded_takes}
 use Rattle.far_replay_laws.proofs.MovesTaken.{step_takes, stop_takes}
-use Rattle.far_replay.proofs.Soiling.{soiled_reads}
+use Rattle.far_alone.proofs.Soiling.{soiled_reads}
 use Rattle.far_replay.proofs.TakingView.{deref_more, view_takes}
 use Rattle.far_replay.proofs.Turns.{access_fact, led, marked_last, new_object_is, new_parts, new_tests, room_lacks, room_last, three, tried}
-use Rattle.far_replay.proofs.Views.{Viewed}
+use Rattle.far_alone.proofs.Views.{Viewed}
 use Rattle.far_replay_laws.proofs.Refusals.{of_far}
 use Rattle.far_replay_laws.proofs.Misleading.{as_misled}
 use Rattle.std.specs.Bool.{MatchBool}

@@ -16,14 +16,14 @@ use Rattle.far_core.specs.world.WorldOf.{world_of}
 use Rattle.far_core.proofs.Cells.{map_mark}
 use Rattle.far_replay.specs.Answers.{Served}
 use Rattle.far_text.specs.Command.{Mutator, Try}
-use Rattle.far_replay.specs.Effects.{is_slow, with_view}
+use Rattle.far_alone.specs.Effects.{is_slow, with_view}
 use Rattle.far_replay_laws.specs.Headline.{IsHotAfter}
 use Rattle.far_replay.specs.Moment.{Moment, with_core}
-use Rattle.far_replay.specs.Objects.{uses}
+use Rattle.far_alone.specs.Objects.{uses}
 use Rattle.far_reply.specs.Reply.{Reply, Done, Refused}
 use Rattle.far_replay.specs.Turn.{first_cause, unless, refused_effect, turn_effect}
 use Rattle.far_replay.proofs.Drops.{viewed_is}
-use Rattle.far_replay.proofs.Views.{pin_read}
+use Rattle.far_alone.proofs.Views.{pin_read}
 use Rattle.far_replay.proofs.WithCore.{same_core}
 
 -- of an object that its mutator uses in its open scope, the refusal hangs on the pin alone

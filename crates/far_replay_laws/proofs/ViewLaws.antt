@@ -33,12 +33,15 @@ use Rattle.far_text.specs.Command.{Command, New, Open, Write, Read, Close, Drop,
 use Rattle.far_text.specs.Written.{WritesBytes, AllWriteBytes}
 use Rattle.far_replay.specs.Changes.{ViewsObject}
 use Rattle.far_replay_laws.specs.Headline.{IsAtHandFor, LogsStay, Reaches, ViewsNothing, ViewsAfter, carried_as, TellsEvents}
-use Rattle.far_replay.specs.EventRows.{after_events, AllSucceed, AtHand, Succeeds}
+use Rattle.far_core.specs.events.Ranges.{after_events}
+use Rattle.far_alone.specs.EventRows.{AllSucceed, AtHand, Succeeds}
 use Rattle.far_reply.specs.Reply.{Reply, Ended, Evacuated, Refused}
-use Rattle.far_replay.specs.Events.{events_for, IsNoStep, turn_events, refused_events, zero_puts, new_events, open_events, view_events, asked_events, asked_events_of, sought_events, span_events, name_events, come_events, come_events_of, dereference_events, load_events, soil_events, store_events, first_loads, last_loads, part_events, drop_events, first_word, words_touched, starts_inside, ends_inside}
-use Rattle.far_replay.specs.Objects.{lowest_cell, with_range, data_of, is_range, object_len, uses}
-use Rattle.far_replay.specs.Dereference.{come, comes_to, dereferenced, has_no_room, sought}
-use Rattle.far_replay.specs.Effects.{near_word, is_slow, with_view}
+use Rattle.far_replay.specs.Events.{events_for, IsNoStep, turn_events, refused_events}
+use Rattle.far_alone.specs.Events.{zero_puts, new_events, open_events, view_events, asked_events, asked_events_of, sought_events, span_events, name_events, come_events, come_events_of, dereference_events, load_events, soil_events, store_events, first_loads, last_loads, part_events, drop_events, first_word, words_touched, starts_inside, ends_inside}
+use Rattle.far_alone.specs.Objects.{lowest_cell, with_range, data_of, is_range, object_len, uses}
+use Rattle.far_alone.specs.Dereference.{come, comes_to, dereferenced, has_no_room, sought}
+use Rattle.far_book.specs.book.Effects.{near_word}
+use Rattle.far_alone.specs.Effects.{is_slow, with_view}
 use Rattle.far_replay.specs.Turn.{causes, refusal, unless, turn_reply, reply_to}
 use Rattle.far_replay_laws.proofs.Coming.{all_come}
 use Rattle.far_replay.proofs.Lasting.{Lasts, all_pass, command_carried, moment_lasts, served_lasts, still_lasts, IsCarriedOut, misled_before}
@@ -47,9 +50,10 @@ use Rattle.far_replay_laws.proofs.Refusals.{EachCause, EachFirst, among, each_fi
 use Rattle.far_replay.proofs.RoundLeads.{reached_reaches, step_keeps, step_leads}
 use Rattle.far_replay.proofs.Turns.{access_fact, led, marked_last, read_leads, room_lacks, room_last, tried, write_leads}
 use Rattle.far_replay.proofs.Dereferences.{derefs, sought_held, sought_leads, view_views}
-use Rattle.far_replay.proofs.Views.{fast_seen, view_is, slow_view}
+use Rattle.far_alone.proofs.Views.{fast_seen, view_is, slow_view}
 use Rattle.far_replay.proofs.ViewsRest.{NoClose, ClosesLast, none_closes, fronts_stay, held_now}
-use Rattle.far_text.proofs.Each.{Each, Each-append, Each-row}
+use Rattle.std.specs.List.{AllByRecursion as Each}
+use Rattle.far_alone.proofs.Each.{Each-append, Each-row}
 use Rattle.far_replay.proofs.AsIfStored.{stored_again}
 use Rattle.far_core.proofs.Put.{put_same}
 use Rattle.far_replay_laws.proofs.Misleading.{as_misled, by_asked, misled_allowed, misled_uses}

@@ -29,19 +29,21 @@ use Rattle.far_evac.specs.Census.{kind_in}
 use Rattle.far_evac.specs.declared.answers.Progress.{Progress}
 use Rattle.far_evac.specs.declared.answers.RoundEnd.{RoundEnd}
 use Rattle.far_evac.specs.declared.answers.RoundEnd.TheVariants as ends
-use Rattle.far_replay.specs.Alone.{Alone, KnowsBy, Learns, Own, nothing}
+use Rattle.far_replay.specs.Alone.{Alone, KnowsBy, Learns}
+use Rattle.far_alone.specs.Own.{Own, nothing}
 use Rattle.far_replay.specs.Answers.{Answered, AnsweredBy, Answers, Commanded, IsMoment, IsOutput, Outside, Served, ByDevice, shape_of, first_moment, opened, flaws, is_true, lie_of}
 use Rattle.far_text.specs.Command.{Command, Heap, CommandLine, New, Open, Write, Read, Close, Where, Drop, View, Try, Epoch, Logs as AsksLogs, Log, Audit, Mutator, Book, Evacuator, By, Script, Select, Mark, Wait, Evacuate, Abort, Round, Device as SaidDevice, Trace}
 use Rattle.far_text.specs.Grammar.{trace_of}
 use Rattle.far_replay.specs.Commanded.{AsksFor, KeepsNear, LiesFar}
 use Rattle.far_replay.specs.Moment.{Moment, as_if_stored}
-use Rattle.far_replay.specs.EventRows.{after_events, AllPass, AllSucceed, AllComeToPass, AtHand}
+use Rattle.far_core.specs.events.Ranges.{after_events}
+use Rattle.far_alone.specs.EventRows.{AllPass, AllSucceed, AllComeToPass, AtHand}
 use Rattle.far_replay.specs.Events.{events_for, IsNoStep}
 use Rattle.far_replay_laws.specs.FromOutside.{FailsAsSaid, LiesAsSaid, NoneLacks, gives_stored}
 use Rattle.far_replay_laws.specs.HowMany.{IsHowMany}
 use Rattle.far_replay_laws.specs.Left.{AllLeave}
 use Rattle.far_replay_laws.specs.Listed.{AllCounted}
-use Rattle.far_replay.specs.Objects.{with_range, uses}
+use Rattle.far_alone.specs.Objects.{with_range, uses}
 use Rattle.far_replay_laws.specs.OtherBytes.{AllGiven}
 use Rattle.far_text.specs.Says.{Says}
 use Rattle.far_replay.specs.Stays.{MayMark, MaySee, Stays}

@@ -6,7 +6,7 @@ use Rattle.far_book.specs.book.FarSide.{kept_len}
 use Rattle.far_core.specs.world.WorldOf.{world_of}
 use Rattle.far_device.specs.Liar.{inverted}
 use Rattle.far_text.specs.Command.{Command}
-use Rattle.far_replay.specs.Alone.{bytes_in_world}
+use Rattle.far_alone.specs.Own.{bytes_in_world}
 use Rattle.far_replay.specs.Answers.{Outside, Serves, Refuses, Gives, Lacks}
 use Rattle.far_replay.specs.Commanded.{AsksFor}
 use Rattle.far_replay.specs.Far.{FarBytes}

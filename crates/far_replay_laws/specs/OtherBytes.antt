@@ -4,11 +4,11 @@ use Rattle.far_word.specs.Bytes.{bytes_of}
 use Rattle.far_core.specs.world.WorldOf.{world_of}
 use Rattle.far_text.specs.Command.{Command, Write, Read, View, Mutator}
 use Rattle.far_text.specs.Written.{WritesBytes}
-use Rattle.far_replay.specs.Alone.{bytes_in_world}
+use Rattle.far_alone.specs.Own.{bytes_in_world}
 use Rattle.far_replay.specs.Answers.{CommandedBy, IsMoment, Outside, Serves, Refuses, Gives, Lacks}
 use Rattle.far_replay.specs.Commanded.{AsksFor, LiesFar}
 use Rattle.far_replay.specs.Moment.{Moment}
-use Rattle.far_replay.specs.Objects.{with_range}
+use Rattle.far_alone.specs.Objects.{with_range}
 use Rattle.far_reply.specs.Reply.{Reply, Done, Data}
 
 -- what a command makes of its object's bytes: a write has its own in their range

@@ -9,7 +9,7 @@ use Rattle.far_text.specs.Grammar.{trace_of}
 use Rattle.far_replay.specs.Answers.{Answers, first_moment, is_true, shape_of}
 use Rattle.far_replay.specs.Commanded.{KeepsFar}
 use Rattle.far_replay.specs.Moment.{Moment}
-use Rattle.far_replay.specs.Objects.{uses}
+use Rattle.far_alone.specs.Objects.{uses}
 use Rattle.far_reply.specs.Reply.{Reply, Done, Pointer, Refused}
 use Rattle.far_replay.specs.Stays.{Stays}
 use Rattle.far_replay_laws.specs.Along.{AllAlong}

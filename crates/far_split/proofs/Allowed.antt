@@ -2,7 +2,8 @@
 use Rattle.std.proofs.Common.{◌≡◌, ℕ, Bool, true, false, [], ◌∷◌, sym, subst, inl, inr, refl}
 use Rattle.std.specs.Bool.{MatchBool}
 use Rattle.far_text.specs.Command.{Command}
-use Rattle.far_replay.specs.Alone.{Alone, IsMisled, KnowsBy, Own}
+use Rattle.far_replay.specs.Alone.{Alone, IsMisled, KnowsBy}
+use Rattle.far_alone.specs.Own.{Own}
 use Rattle.far_reply.specs.Reply.{Reply}
 use Rattle.far_split.specs.Here.{AloneHereIsAlone, AloneIsAloneHere, AloneOnIsAloneHere, HonestIsAllowed, IsGivenOthers, IsUndamaged, KnowsHere}
 

@@ -17,7 +17,8 @@ use Rattle.far_heap.specs.Mine.{Asks, AsksToView, HasLeft as LeavesOne, IsNoObje
 use Rattle.far_heap.specs.MineLaw.{MineLaw}
 use Rattle.far_heap.proofs.Spliced.{length-with_range, with_range_inside}
 use Rattle.far_text.specs.Command.{Close, Command, Drop, Mutator, New, Open, Read, Request, Try, View, Write}
-use Rattle.far_replay.specs.Alone.{HasAll, HasLeft, Knows, Own}
+use Rattle.far_replay.specs.Alone.{HasAll, HasLeft, Knows}
+use Rattle.far_alone.specs.Own.{Own}
 use Rattle.far_reply.specs.Reply.{Data, Done, Pointer, Refused, Reply}
 use Rattle.far_replay.proofs.Fronts.{ranges_same}
 use Rattle.far_split.specs.FarSides.{FarSide}

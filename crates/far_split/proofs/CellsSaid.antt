@@ -31,7 +31,8 @@ use Rattle.far_heap.specs.Helping.{cell_in, says_far}
 use Rattle.far_heap.specs.HeapId.{HeapId}
 use Rattle.far_heap.specs.Mine.{IsSlow}
 use Rattle.far_text.specs.Command.{Book, Close, Command, Drop, Epoch, Evacuator, Mutator, New, Open, Read, Try, View, Where, Write}
-use Rattle.far_replay.specs.Alone.{Knows, Own}
+use Rattle.far_replay.specs.Alone.{Knows}
+use Rattle.far_alone.specs.Own.{Own}
 use Rattle.far_reply.specs.Reply.{Pointer, Refused, Reply}
 use Rattle.far_split.specs.FarSides.{FarReads, FarSide}
 use Rattle.far_split.specs.Here.{IsToldOf, KnowsHere, TellsOfHeap}

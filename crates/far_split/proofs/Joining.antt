@@ -10,7 +10,7 @@ use Rattle.far_hand.specs.ShapeOf.{shape_of as shape_in}
 use Rattle.far_table.specs.BookSeats.{seat_view}
 use Rattle.far_heap.specs.Blanks.{BlankOf, IsUnused}
 use Rattle.far_heap.specs.HeapId.{HeapId}
-use Rattle.far_replay.specs.Alone.{nothing}
+use Rattle.far_alone.specs.Own.{nothing}
 use Rattle.far_replay.specs.Answers.{is_true}
 use Rattle.far_reply.specs.Reply.{IsShort, Reply}
 use Rattle.far_replay.specs.Flawed.{IsFlawed}

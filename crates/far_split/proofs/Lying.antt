@@ -6,7 +6,8 @@ use Rattle.far_word.specs.declared.refused.Refused.TheVariants.{Closed, Damaged,
 use Rattle.far_core.specs.state.State.{put}
 use Rattle.far_core.proofs.Put.{put_same}
 use Rattle.far_text.specs.Command.{Mutator, Read, View, Write}
-use Rattle.far_replay.specs.Alone.{IsIn, IsOut, Own}
+use Rattle.far_replay.specs.Alone.{IsIn, IsOut}
+use Rattle.far_alone.specs.Own.{Own}
 use Rattle.far_replay.proofs.Fronts.{range_length}
 use Rattle.far_split.specs.Served.{ReadsAreAsLong, RefusalsAreLawful}
 

@@ -11,7 +11,7 @@ use Rattle.far_text.specs.Threads.{OfMutator, Thread, is_of, is_own, lines_in}
 use Rattle.far_text.specs.declared.command.Command.{Command as Spelled}
 use Rattle.far_text.specs.declared.command.Command.TheVariants.{Book as SpelledBook, Evacuator as SpelledEvacuator, Mutator as SpelledMutator}
 use Rattle.far_text.specs.declared.command.Request.{Request as SpelledRequest}
-use Rattle.far_replay.specs.Alone.{Own, nothing}
+use Rattle.far_alone.specs.Own.{Own, nothing}
 use Rattle.far_reply.specs.Reply.{IsShort, Reply}
 use Rattle.far_split.specs.Here.{AloneOn, AreBy, KnowsHere, TellsOfHeap, commands_of}
 use Rattle.far_split.specs.Joined.{commands_in}

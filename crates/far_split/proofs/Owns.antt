@@ -13,7 +13,7 @@ use Rattle.far_heap.specs.Mine.{Mine, Object, adopting, asking, bytes_in, closin
 use Rattle.far_heap.specs.MineLaw.{MineLaw}
 use Rattle.far_heap.proofs.OwnRows.{own_row-get}
 use Rattle.far_heap.proofs.Spliced.{length-with_range}
-use Rattle.far_replay.specs.Alone.{Own, nothing}
+use Rattle.far_alone.specs.Own.{Own, nothing}
 use Rattle.far_split.specs.Slots.{HasBytes, IsOwn}
 
 -- ---- a row of what stands at a mutator's pointers, and one that is another at one pointer

@@ -17,7 +17,7 @@ use Rattle.far_evac.specs.EvacOf.{EvacOf}
 use Rattle.far_heap.specs.BookHad.{BookDid, BookHad}
 use Rattle.far_heap.specs.HeapId.{HeapId}
 use Rattle.far_text.specs.Command.{Command, Mutator, New, Read, Try, View, Write}
-use Rattle.far_replay.specs.Alone.{Own}
+use Rattle.far_alone.specs.Own.{Own}
 use Rattle.far_reply.specs.Reply.{Reply, Pointer, Refused}
 use Rattle.far_split.specs.FarSides.{FarReads, FarSide}
 use Rattle.far_split.specs.Here.{AloneOn, KnowsHere, TellsOfHeap}

@@ -8,7 +8,8 @@ use Rattle.far_heap.specs.BookHad.{BookHad, HasRoom, IsAnswered, LacksRoom, None
 use Rattle.far_heap.specs.HeapId.{HeapId}
 use Rattle.far_heap.specs.Mine.{IsSlow}
 use Rattle.far_text.specs.Command.{Command, Mutator, New, Read, Try, View, Write}
-use Rattle.far_replay.specs.Alone.{Alone, Knows, Own, is_by, speaker}
+use Rattle.far_replay.specs.Alone.{Alone, Knows, is_by, speaker}
+use Rattle.far_alone.specs.Own.{Own}
 use Rattle.far_replay.specs.Commanded.{AsksFor}
 use Rattle.far_reply.specs.Reply.{Reply, Pointer, Refused}
 use Rattle.far_split.specs.FarSides.{FarReads, FarSide}

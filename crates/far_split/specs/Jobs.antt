@@ -5,7 +5,7 @@ use Rattle.far_heap.specs.HeapId.{HeapId}
 use Rattle.far_heap.specs.Mine.{newcomer}
 use Rattle.far_text.specs.Command.{Command}
 use Rattle.far_text.specs.Threads.{OfMutator, OfBook, lines_in}
-use Rattle.far_replay.specs.Alone.{nothing}
+use Rattle.far_alone.specs.Own.{nothing}
 use Rattle.far_reply.specs.Reply.{IsShort, Reply}
 use Rattle.far_split.specs.BookTold.{BookTold}
 use Rattle.far_split.specs.Here.{AloneOn}

@@ -13,7 +13,7 @@ use Rattle.far_heap.specs.HeapId.{HeapId}
 use Rattle.far_text.specs.Command.{Command, Device}
 use Rattle.far_text.specs.Split.{SplitTrace, NothingSplit, SplitHeap}
 use Rattle.far_text.specs.Threads.{Thread, OfMutator, OfBook, lines_in}
-use Rattle.far_replay.specs.Alone.{nothing}
+use Rattle.far_alone.specs.Own.{nothing}
 use Rattle.far_replay.specs.Answers.{is_true, shape_of}
 use Rattle.far_replay.specs.Flawed.{IsFlawed}
 use Rattle.far_reply.specs.Reply.{IsShort, Reply}

@@ -3,7 +3,8 @@ use Rattle.std.specs.Prelude.{◌≡◌, ℕ, true, false, List, ◌∷◌, ◌+
 use Rattle.far_word.specs.declared.refused.Refused.{Refused as Refusal}
 use Rattle.far_word.specs.Refused.{refusal_number}
 use Rattle.far_text.specs.Command.{Command, Mutator, Read}
-use Rattle.far_replay.specs.Alone.{Knows, Own}
+use Rattle.far_replay.specs.Alone.{Knows}
+use Rattle.far_alone.specs.Own.{Own}
 use Rattle.far_reply.specs.Reply.{Reply, Data, Refused}
 use Rattle.far_split.specs.Here.{AloneHere, KnowsHere}
 

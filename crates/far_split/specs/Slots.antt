@@ -6,7 +6,7 @@ use Rattle.far_word.specs.declared.sizes.TheConstants.{LONGEST}
 use Rattle.far_heap.specs.HeapId.{HeapId}
 use Rattle.far_heap.specs.Mine.{Mine, Object, len_in, object_of, uses, views}
 use Rattle.far_text.specs.Command.{Mutator, Request, Close, Read, Try, View, Write}
-use Rattle.far_replay.specs.Alone.{Own}
+use Rattle.far_alone.specs.Own.{Own}
 use Rattle.far_reply.specs.Reply.{IsShort, Reply, Logs}
 use Rattle.far_split.specs.Here.{KnowsHere, TellsOfHeap}
 use Rattle.far_split.specs.declared.access.Access.{Access}

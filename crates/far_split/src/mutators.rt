@@ -3,7 +3,7 @@
 ghost use Rattle.std.specs.Prelude.{◌≡◌, IfErr, IfOk};
 ghost use Rattle.std.specs.List.{AllByRecursion};
 ghost use Rattle.far_heap.specs.Mine.{newcomer};
-ghost use Rattle.far_replay.specs.Alone.{nothing};
+ghost use Rattle.far_alone.specs.Own.{nothing};
 ghost use Rattle.far_reply.specs.Reply.{IsShort};
 ghost use Rattle.far_text.specs.SplitText.{AreOwn};
 ghost use Rattle.far_text.specs.Threads.{OfMutator};

@@ -1,5 +1,4 @@
 pub mod Cuts
-pub mod Each
 pub mod HexLemmas
 pub mod HexRooms
 pub mod LastWord

@@ -11,7 +11,7 @@ use Rattle.far_text.specs.Command.{Entry, HeapLine, DeviceLine, Flawed, Flaw, Fa
 use Rattle.far_text.specs.declared.hex_word.TheConstants.{LONGEST_BYTES}
 use Rattle.far_text.specs.Says.{Says, Spells, AreLogs, flaw_name, policy_name}
 use Rattle.far_text.specs.Grammar.{says_heap, asks_read, asks_write, asks_open, asks_close, asks_new, asks_where, asks_drop, asks_view, asks_try, asks_epoch, asks_log, asks_mark, asks_evacuate, asks_select, asks_round, asks_script, select_by, round_by, device_by, flaw_of, says_device, policy_of, log_of, each_log, logs_of, limited, step_line, perhaps, From, Operands, Numbers, NumbersAndOneOr, NumbersAndBytes, WordThen, number_of, bytes_in, next_number, last_bytes, numbers_then, one_or, entry_at_end, entry_from, steps, table, found_in, entry_of, ◌>>=◌}
-use Rattle.far_text.proofs.Each.{Each}
+use Rattle.std.specs.List.{AllByRecursion as Each}
 use Rattle.far_text.proofs.HexLemmas.{spelled_is_hex, hex_is_spelled}
 use Rattle.far_text.proofs.Numbers.{number_is, number_only}
 

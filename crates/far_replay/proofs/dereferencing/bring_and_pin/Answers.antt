@@ -1,7 +1,7 @@
 use Rattle.std.proofs.Common.{rules}
 use Rattle.far_replay.specs.Interpreter.{as_given}
 use Rattle.far_replay.specs.Moment.{state_in}
-use Rattle.far_replay.proofs.Bringing.{came_opened, came_unheld, came_used}
+use Rattle.far_alone.proofs.Bringing.{came_opened, came_unheld, came_used}
 use Rattle.far_replay.proofs.Given.{came_views}
 use Rattle.far_replay.proofs.Told.{holds_both, same_holds}
 use Rattle.far_replay.proofs.dereferencing.bring_and_pin.Goals as goal

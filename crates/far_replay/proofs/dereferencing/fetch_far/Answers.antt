@@ -8,7 +8,7 @@ use Rattle.far_hand.specs.declared.plain.Plain.{Plain}
 use Rattle.far_book.specs.book.BookOf.{BookOf}
 use Rattle.far_book.specs.book.FarSide.{HoldsFar}
 use Rattle.far_replay.specs.Moment.{FarSide, state_in}
-use Rattle.far_replay.proofs.Bringing.{far_inside, far_refused, is_far}
+use Rattle.far_alone.proofs.Bringing.{far_inside, far_refused, is_far}
 use Rattle.far_replay.proofs.Giving.{fetch_brings, fetch_leaves, refused_leaves, refused_spends}
 use Rattle.far_replay.proofs.dereferencing.fetch_far.Goals as goal
 

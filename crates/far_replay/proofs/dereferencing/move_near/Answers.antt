@@ -4,11 +4,11 @@ use Rattle.std.specs.Prelude.{IfSome}
 use Rattle.far_core.specs.state.State.{State}
 use Rattle.far_hand.specs.Quiet.{IsQuietNear}
 use Rattle.far_replay.specs.Commanded.{KeepsFar, Serves}
-use Rattle.far_replay.specs.Dereference.{asked_for}
-use Rattle.far_replay.specs.Interpreter.{order_come, refuser}
+use Rattle.far_alone.specs.Dereference.{asked_for, order_come}
+use Rattle.far_replay.specs.Interpreter.{refuser}
 use Rattle.far_replay.specs.Moment.{state_in}
 use Rattle.far_replay.specs.Spent.{SpentBy}
-use Rattle.far_replay.proofs.Bringing.{asked_quiet, may_ask, near_done, near_order, near_refused, near_room}
+use Rattle.far_alone.proofs.Bringing.{asked_quiet, may_ask, near_done, near_order, near_refused, near_room}
 use Rattle.far_replay.proofs.Dereferences.{comes_stores}
 use Rattle.far_replay.proofs.Giving.{comes_itself}
 use Rattle.far_replay.proofs.Spending.{spent_same}

@@ -6,11 +6,12 @@ use Rattle.far_core.specs.state.CoreState.{core_state}
 use Rattle.far_core.specs.state.State.{State}
 use Rattle.far_book.specs.book.Effects.{retired}
 use Rattle.far_text.specs.Command.{Mutator, Drop}
-use Rattle.far_replay.specs.EventRows.{after_events}
+use Rattle.far_core.specs.events.Ranges.{after_events}
 use Rattle.far_replay.specs.Events.{events_for}
 use Rattle.far_replay.specs.Moment.{FarSide, moment_in, state_in}
-use Rattle.far_replay.specs.Objects.{uses}
-use Rattle.far_replay.proofs.Drops.{ask_fact, asked_is_dropped, dropped_by_events, unheld_is}
+use Rattle.far_alone.specs.Objects.{uses}
+use Rattle.far_alone.proofs.Drops.{ask_fact, asked_is_dropped, unheld_is}
+use Rattle.far_replay.proofs.Drops.{dropped_by_events}
 use Rattle.far_replay.specs.Commanded.{Serves}
 use Rattle.std.proofs.lemmas.Bool.{cases_eq}
 use Rattle.far_book.specs.book.Effects.{with_free_cell}
@@ -20,7 +21,7 @@ use Rattle.far_core.proofs.Cells.{unused}
 use Rattle.far_core.proofs.Put.{put_same}
 use Rattle.far_replay.specs.Far.{far_of}
 use Rattle.far_replay.proofs.FarReads.{go_no_more}
-use Rattle.far_replay.proofs.RangeTurns.{uses_own}
+use Rattle.far_alone.proofs.Storing.{uses_own}
 use Rattle.far_replay.proofs.Spending.{spent_first, spent_none, spent_same}
 use Rattle.far_replay.proofs.dropping.drop_object.Goals as goal
 

@@ -2,7 +2,7 @@ use Rattle.std.proofs.Common.{◌+◌, sym, ap, ◌∙◌, arith}
 use Rattle.far_log.specs.declared.row.LogRow.{LogRow}
 use Rattle.far_core.specs.laws.Observed.{live_bytes}
 use Rattle.far_replay.specs.Moment.{state_in}
-use Rattle.far_replay.proofs.Counted.{summed_more}
+use Rattle.far_alone.proofs.Counted.{summed_more}
 use Rattle.far_replay.proofs.inquiries.count_bytes.Goals as goal
 
 pub overflow_add-live : goal.overflow_add-live

@@ -5,7 +5,7 @@ use Rattle.far_core.specs.state.CoreState.{core_state}
 use Rattle.far_core.specs.state.State.{State}
 use Rattle.far_replay.specs.Audit.{lies_near, lies_far}
 use Rattle.far_replay.specs.Moment.{state_in}
-use Rattle.far_replay.proofs.Counted.{counted_more}
+use Rattle.far_alone.proofs.Counted.{counted_more}
 use Rattle.far_replay.proofs.KeptCounts.{Adds, kept_adds}
 use Rattle.far_replay.proofs.inquiries.count_objects.Goals as goal
 

@@ -10,7 +10,7 @@ use Rattle.far_text.specs.Command.{as_device}
 use Rattle.far_replay.specs.Moment.{Moment, moment_in, state_in}
 use Rattle.far_reply.specs.Reply.{Reply, reply_text}
 use Rattle.far_reply.specs.Stream.{Holds}
-use Rattle.far_replay.specs.Between.{Between}
+use Rattle.far_alone.specs.Between.{Between}
 use Rattle.far_replay.proofs.running.answer_commands.Given as goal
 
 abbrev pub invariant-loop-at : goal.invariant-loop-at

@@ -5,7 +5,7 @@ use Rattle.far_evac.specs.Strays.{NoneStrays}
 use Rattle.std.specs.Option.{option_map}
 use Rattle.far_text.specs.Command.{as_device}
 use Rattle.far_replay.specs.Answers.{is_true}
-use Rattle.far_replay.specs.Between.{Between}
+use Rattle.far_alone.specs.Between.{Between}
 use Rattle.far_replay.specs.Moment.{Moment}
 use Rattle.far_replay.proofs.Opened.{opening_between, opening_round, opening_strays}
 use Rattle.far_replay.proofs.Runs.{in_range, written_front}

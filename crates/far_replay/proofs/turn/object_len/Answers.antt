@@ -1,6 +1,6 @@
 use Rattle.std.proofs.Common.{refl}
 use Rattle.far_word.specs.Pointer.{read_of}
-use Rattle.far_replay.proofs.RangeTurns.{len_most, len_named}
+use Rattle.far_alone.proofs.Lengths.{len_most, len_named}
 use Rattle.far_replay.proofs.turn.object_len.Goals as goal
 
 pub returns-clause-value : goal.returns-clause-value

@@ -6,7 +6,7 @@ use Rattle.far_core.specs.events.Step.{data_len, data_word}
 use Rattle.far_core.specs.state.CoreState.{core_state}
 use Rattle.far_core.specs.state.State.{State}
 use Rattle.far_replay.specs.Moment.{state_in}
-use Rattle.far_replay.specs.Objects.{data_of}
+use Rattle.far_alone.specs.Objects.{data_of}
 use Rattle.far_reply.specs.Reply.{Data}
 use Rattle.far_replay.proofs.Fronts.{read_front}
 use Rattle.far_replay.proofs.turn.read_viewed.Goals as goal

@@ -2,7 +2,7 @@ use Rattle.std.proofs.Common.{◌∙◌, ap, sym}
 use Rattle.far_core.specs.declared.machine.Core.{Core}
 use Rattle.far_core.specs.state.CoreState.{core_state}
 use Rattle.far_replay.specs.Moment.{state_in}
-use Rattle.far_replay.proofs.Soiling.{soiled_before}
+use Rattle.far_alone.proofs.Soiling.{soiled_before}
 use Rattle.far_replay.proofs.turn.soil.Goals as goal
 
 pub returns-else-not-is_soiled-clause-state : goal.returns-else-not-is_soiled-clause-state

@@ -1,6 +1,6 @@
 use Rattle.std.proofs.Common.{◌≡◌, ◌≤◌, List, ◌++◌, drop}
 use Rattle.std.specs.List.{AllByRecursion}
-use Rattle.far_replay.specs.Alone.{nothing}
+use Rattle.far_alone.specs.Own.{nothing}
 use Rattle.far_reply.specs.Reply.{IsShort, Reply}
 use Rattle.far_split.specs.Here.{AloneOn, commands_of}
 use Rattle.far_split.specs.Slots.{mine_in}

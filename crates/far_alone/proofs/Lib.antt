@@ -1,0 +1,16 @@
+pub mod AloneBytes
+pub mod AloneRuns
+pub mod AloneStates
+pub mod Bringing
+pub mod Counted
+pub mod Drops
+pub mod Each
+pub mod Leading
+pub mod Lengths
+pub mod Lowest
+pub mod MadeLemmas
+pub mod RangeWrites
+pub mod Soiling
+pub mod Spliced
+pub mod Storing
+pub mod Views

@@ -1,0 +1,28 @@
+use Rattle.far_private.proofs.Placing.{keeps_kept}
+use Rattle.std.proofs.Common.{length}
+use Rattle.far_private.specs.Objects.{objects_in, state_in}
+use Rattle.far_private.proofs.HeapTies.{bars_so, done_so, read_so, stays_so, why_so}
+use Rattle.far_private.proofs.Lawful.{ends}
+use Rattle.far_private.proofs.heap.PrivateHeap.read.Goals as goal
+
+pub returns-clause-same : goal.returns-clause-same
+returns-clause-same g c = stays_so (objects_in c.self.inside.evac) c.args.self.now c.self.view_is (objects_in c.read_range.new.evac) c.read_range.ensures.keeps.objects
+
+pub returns-clause-read : goal.returns-clause-read
+returns-clause-read g c = read_so (objects_in c.self.inside.evac) c.args.self.now c.self.view_is (ends (state_in c.self.inside.evac) c.self.inside.evac.book.near.core.law c.self.invariant.settled)
+    c.read_range.result c.args.pointer c.args.from (length c.args.out.now) c.read_range.new.out c.read_range.ensures.read
+
+pub returns-clause-done : goal.returns-clause-done
+returns-clause-done g c = done_so (objects_in c.self.inside.evac) c.args.self.now c.self.view_is (ends (state_in c.self.inside.evac) c.self.inside.evac.book.near.core.law c.self.invariant.settled)
+    c.args.pointer c.args.from (length c.args.out.now) c.read_range.result c.read_range.ensures.barred c.read_range.ensures.outside
+
+pub returns-clause-barred : goal.returns-clause-barred
+returns-clause-barred g c = bars_so (objects_in c.self.inside.evac) c.args.self.now c.self.view_is (ends (state_in c.self.inside.evac) c.self.inside.evac.book.near.core.law c.self.invariant.settled)
+    c.args.pointer c.args.from (length c.args.out.now) c.read_range.result c.read_range.ensures.barred c.read_range.ensures.outside
+
+pub returns-clause-why : goal.returns-clause-why
+returns-clause-why g c = why_so (objects_in c.self.inside.evac) c.args.self.now c.self.view_is (ends (state_in c.self.inside.evac) c.self.inside.evac.book.near.core.law c.self.invariant.settled)
+    c.args.pointer c.args.from (length c.args.out.now) c.read_range.result c.read_range.ensures.barred c.read_range.ensures.outside
+
+pub invariant_of-self : goal.invariant_of-self
+invariant_of-self g c = keeps_kept (state_in c.self.inside.evac) (state_in c.read_range.new.evac) c.self.inside.free c.self.invariant c.read_range.ensures.keeps

@@ -1,0 +1,47 @@
+-- Why calls are refused, as the heap and its device stand once they are.
+use Rattle.std.specs.Prelude.{◌≡◌, ◌≢◌, ◌⊎◌, ℕ, ◌+◌, ◌<◌, ◌≤◌, true, false, Some, None, IsSome, List, length, Result, Ok, Err}
+use Rattle.far_word.specs.declared.refused.Refused.{Refused}
+use Rattle.far_word.specs.declared.refused.Refused.TheVariants.{Damaged, Device, Memory, NoRoom}
+use Rattle.far_word.specs.declared.sizes.TheConstants.{LOG_WORDS}
+use Rattle.far_word.specs.Pointer.{read_of}
+use Rattle.far_core.specs.state.Room.{free_logs, room}
+use Rattle.far_core.specs.state.State.{State}
+use Rattle.far_device.specs.declared.fault.DeviceFault.{DeviceFault}
+use Rattle.far_device.specs.declared.fault.DeviceFault.TheVariants as fault
+use Rattle.far_book.specs.book.Dealing.{goal}
+use Rattle.far_book.specs.book.Fetching.{far_len, room_for}
+use Rattle.far_alone.specs.Dereference.{says_near}
+
+-- no log has room for so many words of a new object, or of one that is to come: the open log ends before it, and one log at most is free, which is left to moves
+pub record IsFullFor (s : State) (size : ℕ) : Type 0 where
+  pub open_log : LOG_WORDS < s.tail s.current + size
+  pub reserve : length (free_logs s) ≤ 1
+
+-- that is what it means that there is no room
+abbrev pub NoRoomIsFull : Type 0
+NoRoomIsFull = (s : State) (size : ℕ) → room s size true ≡ None → IsFullFor s size
+
+-- a near object is to move, and no log has room for it, not even the last free one
+pub record IsCrowded (s : State) (p : ℕ) (why : Refused) : Type 0 where
+  pub is : why ≡ NoRoom
+  pub near : says_near (read_of (s.cell p)) ≡ true
+  pub none : goal s p ≡ None
+
+module _ (D : Type 0) (reads : D → ℕ → Result (List ℕ) DeviceFault → D → Type 0) where
+  -- why a far object doesn't come: there is no room for it, in the open log or in a free one but the last; or there is, and the last thing that the device was asked was a read of it,
+  -- which had this fault, or gave more or fewer bytes than the object has, as no honest far side does
+  abbrev pub WhyFar : State → ℕ → D → Refused → Type 0
+  WhyFar s p device NoRoom = room_for s p ≡ None
+  WhyFar s p device Memory = IsSome (room_for s p) × (before : D) × reads before p (Err fault.Memory) device
+  WhyFar s p device Device = IsSome (room_for s p) × (before : D) × reads before p (Err fault.Device) device
+  WhyFar s p device Damaged = IsSome (room_for s p) × (s.honest ≡ false) × (before : D) × (bytes : List ℕ) × reads before p (Ok bytes) device × (length bytes ≢ far_len (read_of (s.cell p)))
+  WhyFar s p device why = ⊥
+
+  -- an object is far, and stays so
+  pub record StaysFar (s : State) (p : ℕ) (device : D) (why : Refused) : Type 0 where
+    pub far : says_near (read_of (s.cell p)) ≡ false
+    pub cause : WhyFar s p device why
+
+  -- an object doesn't come to where it may be held
+  abbrev pub StaysAway : State → ℕ → D → Refused → Type 0
+  StaysAway s p device why = StaysFar s p device why ⊎ IsCrowded s p why

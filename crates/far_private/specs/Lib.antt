@@ -1,0 +1,12 @@
+pub mod FreeBits
+pub mod FreePointers
+pub mod Objects
+pub mod Steps
+pub mod Causes
+pub mod Laws
+pub mod Heap
+pub mod HeapOf
+pub mod HeapLaws
+pub mod Looks
+pub mod Changes
+pub mod NoRound

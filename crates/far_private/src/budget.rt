@@ -1,0 +1,69 @@
+//! How many rounds a call makes where there is no room.
+
+ghost use Rattle.std.specs.Prelude.{◌≡◌, ◌<◌, true, false};
+ghost use Rattle.far_private.specs.Objects.{state_in};
+ghost use Rattle.far_private.specs.Steps.{Keeps};
+
+use crate::rooms::{Outcome, make_room};
+use crate::scopes::core_of;
+use far_book::Plain;
+use far_device::Device;
+use far_evac::Evac;
+
+/// The rounds that a call may make yet.
+///
+/// Where a call finds no room, one log at most is free, and a round takes the two oldest of the sealed ones (of three logs
+/// one alone is sealed then). It gives each back: what is hot there moves to another log and lacks HOT from then on, what
+/// isn't goes far, and what the device refuses moves too. A log that is opened meanwhile is the youngest. So `logs / 2 + 1`
+/// rounds, a *pass*, take each log that had an object when they began, the open one too, unless two logs are free before,
+/// which is room for any object. After a pass no object that is near is hot, and the next round frees its logs whole, as far
+/// as the device takes what has to be written. After a second pass each that is near was refused by the device since the
+/// call began, and they lie packed.
+///
+/// So a call makes two passes at most. It ends before where a pass brought nothing: in each of its rounds every object was
+/// refused; and where no log is sealed.
+#[derive(Clone, Copy)]
+pub(crate) struct Rounds {
+    // How many more.
+    left: u8,
+    // How many more that bring nothing.
+    vain: u8,
+    // How many a pass has.
+    pass: u8,
+}
+
+impl Rounds {
+    /// Those of a call that found no room.
+    #[inline]
+    pub(crate) fn new<D: Device + Drop>(evac: &Evac<Plain, D>) -> Rounds {
+        let pass = core_of(evac).logs() / 2 + 1;
+        Rounds {
+            left: pass.saturating_mul(2),
+            vain: pass,
+            pass,
+        }
+    }
+
+    /// Makes one more, if it may bring room. All scopes are closed then.
+    pub(crate) fn make<D: Device + Drop>(&mut self, evac: &mut Evac<Plain, D>) -> bool
+        ensures fewer { result ≡ true → self.new.left < self.old.left }
+        ensures keeps { Keeps (state_in evac.old) (state_in evac.new) }
+        ensures none { result ≡ false → evac.new ≡ evac.old }
+    {
+        if self.left == 0 || self.vain == 0 {
+            return false;
+        }
+        match make_room(evac) {
+            Outcome::Nothing => self.left = 0,
+            Outcome::Vain => {
+                self.left -= 1;
+                self.vain -= 1;
+            }
+            Outcome::Gives => {
+                self.left -= 1;
+                self.vain = self.pass;
+            }
+        }
+        true
+    }
+}

@@ -1,0 +1,126 @@
+//! A range of an object is read, changed and written in one go.
+
+ghost use Rattle.std.specs.Prelude.{◌≡◌, ◌<◌, ◌+◌, ◌≤◌, ℕ, List, true, length, IsSome, None, Some, Err, IfErr, OnErr, OnOk};
+ghost use Rattle.std.specs.Fn.{FnOnceReturnsAtMut, FnOnceTakesAtMut};
+ghost use Rattle.far_word.specs.declared.refused.Refused.{Refused as Refusal};
+ghost use Rattle.far_word.specs.declared.sizes.TheConstants.{LONGEST};
+ghost use Rattle.far_core.specs.events.Step.{data_len};
+ghost use Rattle.far_private.specs.Changes.{Changes};
+ghost use Rattle.far_private.specs.Heap.{IsOutside};
+ghost use Rattle.far_private.specs.Objects.{IsRead, Settled, access_refusal, len_in, objects_of, state_in, with_written};
+ghost use Rattle.far_private.specs.Steps.{Keeps};
+
+use crate::access::write_held;
+use crate::nearby::copy_near;
+use crate::ranges::reach;
+use crate::rooms::see;
+use far_book::Plain;
+use far_device::Device;
+use far_evac::Evac;
+use far_word::Refused;
+
+/// Reads a range into bytes, has them changed by one call, and writes them back. Nothing has changed where it is refused.
+pub(crate) fn change_range<D: Device + Drop, F: FnOnce(&mut [u8])>(
+    evac: &mut Evac<Plain, D>,
+    pointer: u16,
+    from: usize,
+    bytes: &mut [u8],
+    change: F,
+) -> Result<(), Refused>
+    requires settled { Settled (state_in evac.old) }
+    requires takes { (read : List ℕ) → length read ≡ length bytes.old → FnOnceTakesAtMut F.FnOnce change read }
+    ensures settled { Settled (state_in evac.new) }
+    ensures changed { OnOk result (Changes (FnOnceReturnsAtMut F.FnOnce change) pointer from (length bytes.old) bytes.new (objects_of (state_in evac.old)) (objects_of (state_in evac.new))) }
+    ensures refused { OnErr result (objects_of (state_in evac.new) ≡ objects_of (state_in evac.old)) }
+    ensures kept { OnErr result (bytes.new ≡ bytes.old) }
+    ensures barred { (why : Refusal) → access_refusal (objects_of (state_in evac.old)) pointer from (length bytes.old) ≡ Some why → result ≡ Err why }
+    ensures outside { access_refusal (objects_of (state_in evac.old)) pointer from (length bytes.old) ≡ None → IfErr result (λ why. IsOutside why) }
+{
+    match reach(evac, pointer, from, bytes.len()) {
+        Ok(()) => {}
+        Err(why) => return Err(why),
+    }
+    change_reached(evac, pointer, from as u16, bytes, change)
+}
+
+// The same of a range that lies in the object.
+fn change_reached<D: Device + Drop, F: FnOnce(&mut [u8])>(
+    evac: &mut Evac<Plain, D>,
+    pointer: u16,
+    from: u16,
+    bytes: &mut [u8],
+    change: F,
+) -> Result<(), Refused>
+    requires settled { Settled (state_in evac.old) }
+    requires used { (state_in evac.old).used pointer ≡ true }
+    requires some { 0 < length bytes.old }
+    requires inside { from + length bytes.old ≤ len_in (objects_of (state_in evac.old)) pointer }
+    requires most { from + length bytes.old ≤ LONGEST }
+    requires takes { (read : List ℕ) → length read ≡ length bytes.old → FnOnceTakesAtMut F.FnOnce change read }
+    ensures settled { Settled (state_in evac.new) }
+    ensures changed { OnOk result (Changes (FnOnceReturnsAtMut F.FnOnce change) pointer from (length bytes.old) bytes.new (objects_of (state_in evac.old)) (objects_of (state_in evac.new))) }
+    ensures refused { OnErr result (objects_of (state_in evac.new) ≡ objects_of (state_in evac.old)) }
+    ensures kept { OnErr result (bytes.new ≡ bytes.old) }
+    ensures outside { IfErr result (λ why. IsOutside why) }
+{
+    match take(evac, pointer, from, bytes) {
+        Ok(()) => {
+            call_once(change, bytes);
+            overwrite(evac, pointer, from, bytes);
+            Ok(())
+        }
+        Err(why) => Err(why),
+    }
+}
+
+// Calls a function of bytes.
+#[inline(always)]
+fn call_once<F: FnOnce(&mut [u8])>(change: F, bytes: &mut [u8])
+    requires { FnOnceTakesAtMut F.FnOnce change bytes.old }
+    ensures { FnOnceReturnsAtMut F.FnOnce change bytes.old tt bytes.new }
+{
+    change(bytes);
+}
+
+// Copies a range of an object, and has the object held, so that the range may be written.
+fn take<D: Device + Drop>(
+    evac: &mut Evac<Plain, D>,
+    pointer: u16,
+    from: u16,
+    out: &mut [u8],
+) -> Result<(), Refused>
+    requires used { (state_in evac.old).used pointer ≡ true }
+    requires inside { from + length out.old ≤ len_in (objects_of (state_in evac.old)) pointer }
+    ensures keeps { Keeps (state_in evac.old) (state_in evac.new) }
+    ensures held { OnOk result (IsSome ((state_in evac.new).held pointer)) }
+    ensures inside { OnOk result (from + length out.old ≤ data_len (state_in evac.new) pointer) }
+    ensures read { OnOk result (IsRead (objects_of (state_in evac.old)) pointer from (length out.old) out.new) }
+    ensures kept { OnErr result (out.new ≡ out.old) }
+    ensures outside { IfErr result (λ why. IsOutside why) }
+{
+    match see(evac, pointer) {
+        Ok(()) => {
+            copy_near(evac, pointer, from, out);
+            Ok(())
+        }
+        Err(why) => Err(why),
+    }
+}
+
+/// Writes bytes over a range of an object that is held.
+pub(crate) fn overwrite<D: Device + Drop>(
+    evac: &mut Evac<Plain, D>,
+    pointer: u16,
+    from: u16,
+    bytes: &[u8],
+)
+    requires settled { Settled (state_in evac.old) }
+    requires held { IsSome ((state_in evac.old).held pointer) }
+    requires some { 0 < length bytes.now }
+    requires inside { from + length bytes.now ≤ data_len (state_in evac.old) pointer }
+    requires most { from + length bytes.now ≤ LONGEST }
+    ensures settled { Settled (state_in evac.new) }
+    ensures written { objects_of (state_in evac.new) ≡ with_written pointer from bytes.now (objects_of (state_in evac.old)) }
+{
+    write_held(evac, pointer, from, bytes);
+}

@@ -1,0 +1,123 @@
+//! Objects come and go.
+
+ghost use Rattle.std.specs.Prelude.{◌≡◌, ◌≢◌, ◌≤◌, ◌<◌, ◌/◌, ℕ, true, false, None, IfOk, IfErr, OnErr, OnOk, MatchOption};
+ghost use Rattle.far_word.specs.declared.sizes.TheConstants.{CELLS, LONGEST};
+ghost use Rattle.far_word.specs.declared.refused.Refused.TheVariants.{NoRoom};
+ghost use Rattle.far_word.specs.Sizes.{size_of};
+ghost use Rattle.far_core.specs.state.Room.{room};
+ghost use Rattle.far_private.specs.Looks.{IsFresh};
+ghost use Rattle.far_private.specs.Objects.{IsFree, IsFull, Settled, objects_of, state_in, with_new, without};
+ghost use Rattle.far_private.specs.FreePointers.{IsKept};
+ghost use Rattle.far_private.specs.Steps.{Keeps};
+
+use crate::budget::Rounds;
+use crate::free_pointers::FreePointers;
+use crate::scopes::{close, core_of};
+use far_book::Plain;
+use far_device::Device;
+use far_evac::Evac;
+use far_word::{CELLS, Mark, Refused};
+
+/// The lowest pointer that is free; `None` only where none is.
+#[inline(always)]
+pub(crate) fn free_pointer<D: Device + Drop>(
+    evac: &Evac<Plain, D>,
+    free: &FreePointers,
+) -> Option<u16>
+    requires kept { IsKept (state_in evac.now) free.now }
+    ensures { MatchOption result (IsFull (state_in evac.now)) (λ p. IsFree (state_in evac.now) p) }
+{
+    let _ = evac;
+    free.lowest()
+}
+
+/// Places a new object of zeros, making rounds where there is no room for it.
+pub(crate) fn place_new<D: Device + Drop>(
+    evac: &mut Evac<Plain, D>,
+    pointer: u16,
+    len: u16,
+    structure: u8,
+) -> Result<(), Refused>
+    requires settled { Settled (state_in evac.old) }
+    requires free { (state_in evac.old).cell pointer ≡ 0 }
+    requires pointer { pointer < 2048 }
+    requires some { 0 < len }
+    requires most { len ≤ LONGEST }
+    ensures settled { Settled (state_in evac.new) }
+    ensures made { IfOk result (λ _. objects_of (state_in evac.new) ≡ with_new pointer len structure (objects_of (state_in evac.old))) }
+    ensures refused { OnErr result (objects_of (state_in evac.new) ≡ objects_of (state_in evac.old)) }
+    ensures fresh { OnOk result (IsFresh (state_in evac.new) pointer) }
+    ensures why { IfErr result (λ why. why ≡ NoRoom) }
+    ensures none { OnErr result (room (state_in evac.new) (size_of len) true ≡ None) }
+{
+    let mut rounds = Rounds::new(evac);
+    while !place_now(evac, pointer, len, structure) {
+        if !rounds.make(evac) {
+            return Err(Refused::NoRoom);
+        }
+    }
+    Ok(())
+}
+
+// Places a new object of zeros, if there is room.
+fn place_now<D: Device + Drop>(
+    evac: &mut Evac<Plain, D>,
+    pointer: u16,
+    len: u16,
+    structure: u8,
+) -> bool
+    requires settled { Settled (state_in evac.old) }
+    requires free { (state_in evac.old).cell pointer ≡ 0 }
+    requires pointer { pointer < 2048 }
+    requires some { 0 < len }
+    requires most { len ≤ LONGEST }
+    ensures settled { result ≡ true → Settled (state_in evac.new) }
+    ensures made { result ≡ true → objects_of (state_in evac.new) ≡ with_new pointer len structure (objects_of (state_in evac.old)) }
+    ensures fresh { result ≡ true → IsFresh (state_in evac.new) pointer }
+    ensures refused { result ≡ false → state_in evac.new ≡ state_in evac.old }
+    ensures none { result ≡ false → room (state_in evac.new) (size_of len) true ≡ None }
+{
+    match evac.place(pointer, len, structure) {
+        Ok(_) => {
+            let owner = (pointer / CELLS) as u8;
+            evac.adopt(owner, pointer);
+            true
+        }
+        Err(_) => false,
+    }
+}
+
+/// Drops an object.
+pub(crate) fn drop_used<D: Device + Drop>(evac: &mut Evac<Plain, D>, pointer: u16)
+    requires settled { Settled (state_in evac.old) }
+    requires used { (state_in evac.old).used pointer ≡ true }
+    ensures settled { Settled (state_in evac.new) }
+    ensures dropped { objects_of (state_in evac.new) ≡ without pointer (objects_of (state_in evac.old)) }
+{
+    let_go(evac, pointer);
+    drop_unheld(evac, pointer);
+}
+
+// Has an object held no longer: its owner's scope is closed where it is.
+fn let_go<D: Device + Drop>(evac: &mut Evac<Plain, D>, pointer: u16)
+    ensures keeps { Keeps (state_in evac.old) (state_in evac.new) }
+    ensures unheld { (state_in evac.new).held pointer ≡ None }
+{
+    if core_of(evac).is_held(pointer) {
+        let owner = (pointer / CELLS) as u8;
+        close(evac, owner);
+    }
+}
+
+// Drops an object that isn't held.
+fn drop_unheld<D: Device + Drop>(evac: &mut Evac<Plain, D>, pointer: u16)
+    requires settled { Settled (state_in evac.old) }
+    requires used { (state_in evac.old).used pointer ≡ true }
+    requires unheld { (state_in evac.old).held pointer ≡ None }
+    ensures settled { Settled (state_in evac.new) }
+    ensures dropped { objects_of (state_in evac.new) ≡ without pointer (objects_of (state_in evac.old)) }
+{
+    let owner = (pointer / CELLS) as u8;
+    evac.ask(owner, pointer, Mark::Dropped);
+    evac.retire(pointer);
+}

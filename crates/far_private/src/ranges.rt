@@ -1,0 +1,252 @@
+//! Ranges of objects, wherever they are.
+
+ghost use Rattle.std.specs.Prelude.{◌≡◌, ◌<◌, ◌+◌, ◌≤◌, ◌&&◌, nat_lt, nat_le, true, false, length, slice_range, None, Some, Ok, Err, IfErr, IfSome, OnErr, OnOk};
+ghost use Rattle.far_word.specs.declared.refused.Refused.{Refused as Refusal};
+ghost use Rattle.far_word.specs.declared.refused.Refused.TheVariants.{NoRoom as no_room};
+ghost use Rattle.far_word.specs.declared.sizes.TheConstants.{LONGEST};
+ghost use Rattle.far_word.specs.Pointer.{read_of};
+ghost use Rattle.far_alone.specs.Dereference.{says_near};
+ghost use Rattle.far_private.specs.Causes.{StaysAway, StaysFar};
+ghost use Rattle.far_private.specs.Heap.{IsOutside};
+ghost use Rattle.far_private.specs.Objects.{IsRead, Settled, access_refusal, bytes_in, len_in, objects_of, state_in, with_written};
+ghost use Rattle.far_private.specs.Steps.{Keeps};
+
+use crate::access::write_held;
+use crate::bringing::{fetch_far, is_near, warm};
+use crate::budget::Rounds;
+use crate::nearby::copy_near;
+use crate::rooms::see;
+use crate::scopes::core_of;
+use far_book::Plain;
+use far_device::Device;
+use far_evac::Evac;
+use far_word::{Refused, pointer_len};
+
+/// Whether a range lies in the object of a pointer, or why it may not be reached.
+pub(crate) fn reach<D: Device + Drop>(
+    evac: &Evac<Plain, D>,
+    pointer: u16,
+    from: usize,
+    count: usize,
+) -> Result<(), Refused>
+    requires settled { Settled (state_in evac.now) }
+    ensures used { OnOk result ((state_in evac.now).used pointer ≡ true) }
+    ensures some { OnOk result (0 < count) }
+    ensures inside { OnOk result (from + count ≤ len_in (objects_of (state_in evac.now)) pointer) }
+    ensures most { OnOk result (from + count ≤ LONGEST) }
+    ensures allowed { OnOk result (access_refusal (objects_of (state_in evac.now)) pointer from count ≡ None) }
+    ensures refused { IfErr result (λ why. access_refusal (objects_of (state_in evac.now)) pointer from count ≡ Some why) }
+{
+    if !core_of(evac).is_used(pointer) {
+        return Err(Refused::NotHeld);
+    }
+    if !lies_in(used_len(evac, pointer) as usize, from, count) {
+        return Err(Refused::Range);
+    }
+    Ok(())
+}
+
+// Whether a range isn't empty and lies in so many bytes.
+#[inline(always)]
+fn lies_in(len: usize, from: usize, count: usize) -> bool
+    ensures { result ≡ (nat_lt 0 count && nat_le (from + count) len) }
+{
+    count != 0 && from <= len && count <= len - from
+}
+
+/// How many bytes a pointer's object has.
+pub(crate) fn used_len<D: Device + Drop>(evac: &Evac<Plain, D>, pointer: u16) -> u16
+    requires used { (state_in evac.now).used pointer ≡ true }
+    ensures len { result ≡ len_in (objects_of (state_in evac.now)) pointer }
+    ensures most { result ≤ LONGEST }
+{
+    pointer_len(core_of(evac).cell(pointer))
+}
+
+/// Reads a range of an object.
+pub(crate) fn read_range<D: Device + Drop>(
+    evac: &mut Evac<Plain, D>,
+    pointer: u16,
+    from: usize,
+    out: &mut [u8],
+) -> Result<(), Refused>
+    requires settled { Settled (state_in evac.old) }
+    ensures keeps { Keeps (state_in evac.old) (state_in evac.new) }
+    ensures read { OnOk result (IfSome (bytes_in (objects_of (state_in evac.old)) pointer) (λ bytes. out.new ≡ slice_range bytes from (from + length out.old))) }
+    ensures barred { (why : Refusal) → access_refusal (objects_of (state_in evac.old)) pointer from (length out.old) ≡ Some why → result ≡ Err why }
+    ensures outside { access_refusal (objects_of (state_in evac.old)) pointer from (length out.old) ≡ None → IfErr result (λ why. IsOutside why) }
+    ensures far { access_refusal (objects_of (state_in evac.old)) pointer from (length out.old) ≡ None → IfErr result (λ why. StaysFar D D.reads (state_in evac.new) pointer evac.new.book.device why) }
+    ensures near { access_refusal (objects_of (state_in evac.old)) pointer from (length out.old) ≡ None → says_near (read_of ((state_in evac.old).cell pointer)) ≡ true → result ≡ Ok tt }
+{
+    match reach(evac, pointer, from, out.len()) {
+        Ok(()) => {}
+        Err(why) => return Err(why),
+    }
+    read_reached(evac, pointer, from as u16, out)
+}
+
+// Reads a range that lies in an object.
+fn read_reached<D: Device + Drop>(
+    evac: &mut Evac<Plain, D>,
+    pointer: u16,
+    from: u16,
+    out: &mut [u8],
+) -> Result<(), Refused>
+    requires used { (state_in evac.old).used pointer ≡ true }
+    requires some { 0 < length out.old }
+    requires inside { from + length out.old ≤ len_in (objects_of (state_in evac.old)) pointer }
+    requires most { from + length out.old ≤ LONGEST }
+    ensures keeps { Keeps (state_in evac.old) (state_in evac.new) }
+    ensures read { OnOk result (IsRead (objects_of (state_in evac.old)) pointer from (length out.old) out.new) }
+    ensures far { IfErr result (λ why. StaysFar D D.reads (state_in evac.new) pointer evac.new.book.device why) }
+    ensures near { says_near (read_of ((state_in evac.old).cell pointer)) ≡ true → result ≡ Ok tt }
+{
+    match read_once(evac, pointer, from, out) {
+        Ok(()) => Ok(()),
+        Err(Refused::NoRoom) => read_again(evac, pointer, from, out),
+        Err(why) => Err(why),
+    }
+}
+
+// The same once there was no room for the object.
+#[inline(never)]
+fn read_again<D: Device + Drop>(
+    evac: &mut Evac<Plain, D>,
+    pointer: u16,
+    from: u16,
+    out: &mut [u8],
+) -> Result<(), Refused>
+    requires used { (state_in evac.old).used pointer ≡ true }
+    requires some { 0 < length out.old }
+    requires inside { from + length out.old ≤ len_in (objects_of (state_in evac.old)) pointer }
+    requires most { from + length out.old ≤ LONGEST }
+    requires far { StaysFar D D.reads (state_in evac.old) pointer evac.old.book.device no_room }
+    ensures keeps { Keeps (state_in evac.old) (state_in evac.new) }
+    ensures read { OnOk result (IsRead (objects_of (state_in evac.old)) pointer from (length out.old) out.new) }
+    ensures far { IfErr result (λ why. StaysFar D D.reads (state_in evac.new) pointer evac.new.book.device why) }
+{
+    let mut rounds = Rounds::new(evac);
+    while rounds.make(evac) {
+        match read_once(evac, pointer, from, out) {
+            Ok(()) => return Ok(()),
+            Err(Refused::NoRoom) => {}
+            Err(why) => return Err(why),
+        }
+    }
+    Err(Refused::NoRoom)
+}
+
+// The same, without a round. A near object has HOT then; a far one is fetched, and stays cold.
+#[inline(always)]
+fn read_once<D: Device + Drop>(
+    evac: &mut Evac<Plain, D>,
+    pointer: u16,
+    from: u16,
+    out: &mut [u8],
+) -> Result<(), Refused>
+    requires used { (state_in evac.old).used pointer ≡ true }
+    requires some { 0 < length out.old }
+    requires inside { from + length out.old ≤ len_in (objects_of (state_in evac.old)) pointer }
+    requires most { from + length out.old ≤ LONGEST }
+    ensures keeps { Keeps (state_in evac.old) (state_in evac.new) }
+    ensures read { OnOk result (IsRead (objects_of (state_in evac.old)) pointer from (length out.old) out.new) }
+    ensures far { IfErr result (λ why. StaysFar D D.reads (state_in evac.new) pointer evac.new.book.device why) }
+    ensures near { says_near (read_of ((state_in evac.old).cell pointer)) ≡ true → result ≡ Ok tt }
+{
+    core_of(evac).keeps_law();
+    if is_near(core_of(evac).cell(pointer)) {
+        read_near(evac, pointer, from, out);
+        Ok(())
+    } else {
+        read_far(evac, pointer, from, out)
+    }
+}
+
+// The same of a near object.
+#[inline(always)]
+fn read_near<D: Device + Drop>(evac: &mut Evac<Plain, D>, pointer: u16, from: u16, out: &mut [u8])
+    requires used { (state_in evac.old).used pointer ≡ true }
+    requires near { says_near (read_of ((state_in evac.old).cell pointer)) ≡ true }
+    requires some { 0 < length out.old }
+    requires inside { from + length out.old ≤ len_in (objects_of (state_in evac.old)) pointer }
+    requires most { from + length out.old ≤ LONGEST }
+    ensures keeps { Keeps (state_in evac.old) (state_in evac.new) }
+    ensures read { IsRead (objects_of (state_in evac.old)) pointer from (length out.old) out.new }
+{
+    copy_near(evac, pointer, from, out);
+    warm(evac, pointer);
+}
+
+// The same of a far one.
+#[inline(never)]
+fn read_far<D: Device + Drop>(
+    evac: &mut Evac<Plain, D>,
+    pointer: u16,
+    from: u16,
+    out: &mut [u8],
+) -> Result<(), Refused>
+    requires used { (state_in evac.old).used pointer ≡ true }
+    requires far { says_near (read_of ((state_in evac.old).cell pointer)) ≡ false }
+    requires some { 0 < length out.old }
+    requires inside { from + length out.old ≤ len_in (objects_of (state_in evac.old)) pointer }
+    requires most { from + length out.old ≤ LONGEST }
+    ensures keeps { Keeps (state_in evac.old) (state_in evac.new) }
+    ensures read { OnOk result (IsRead (objects_of (state_in evac.old)) pointer from (length out.old) out.new) }
+    ensures far { IfErr result (λ why. StaysFar D D.reads (state_in evac.new) pointer evac.new.book.device why) }
+{
+    match fetch_far(evac, pointer) {
+        Ok(()) => {
+            copy_near(evac, pointer, from, out);
+            Ok(())
+        }
+        Err(why) => Err(why),
+    }
+}
+
+/// Writes bytes over a range of an object.
+pub(crate) fn write_range<D: Device + Drop>(
+    evac: &mut Evac<Plain, D>,
+    pointer: u16,
+    from: usize,
+    bytes: &[u8],
+) -> Result<(), Refused>
+    requires settled { Settled (state_in evac.old) }
+    ensures settled { Settled (state_in evac.new) }
+    ensures written { OnOk result (objects_of (state_in evac.new) ≡ with_written pointer from bytes.now (objects_of (state_in evac.old))) }
+    ensures refused { OnErr result (objects_of (state_in evac.new) ≡ objects_of (state_in evac.old)) }
+    ensures barred { (why : Refusal) → access_refusal (objects_of (state_in evac.old)) pointer from (length bytes.now) ≡ Some why → result ≡ Err why }
+    ensures outside { access_refusal (objects_of (state_in evac.old)) pointer from (length bytes.now) ≡ None → IfErr result (λ why. IsOutside why) }
+    ensures away { access_refusal (objects_of (state_in evac.old)) pointer from (length bytes.now) ≡ None → IfErr result (λ why. StaysAway D D.reads (state_in evac.new) pointer evac.new.book.device why) }
+{
+    match reach(evac, pointer, from, bytes.len()) {
+        Ok(()) => {}
+        Err(why) => return Err(why),
+    }
+    write_reached(evac, pointer, from as u16, bytes)
+}
+
+// Writes over a range that lies in an object.
+fn write_reached<D: Device + Drop>(
+    evac: &mut Evac<Plain, D>,
+    pointer: u16,
+    from: u16,
+    bytes: &[u8],
+) -> Result<(), Refused>
+    requires settled { Settled (state_in evac.old) }
+    requires used { (state_in evac.old).used pointer ≡ true }
+    requires some { 0 < length bytes.now }
+    requires inside { from + length bytes.now ≤ len_in (objects_of (state_in evac.old)) pointer }
+    requires most { from + length bytes.now ≤ LONGEST }
+    ensures settled { Settled (state_in evac.new) }
+    ensures written { OnOk result (objects_of (state_in evac.new) ≡ with_written pointer from bytes.now (objects_of (state_in evac.old))) }
+    ensures refused { OnErr result (objects_of (state_in evac.new) ≡ objects_of (state_in evac.old)) }
+    ensures away { IfErr result (λ why. StaysAway D D.reads (state_in evac.new) pointer evac.new.book.device why) }
+{
+    match see(evac, pointer) {
+        Ok(()) => {
+            write_held(evac, pointer, from, bytes);
+            Ok(())
+        }
+        Err(why) => Err(why),
+    }
+}

@@ -1,7 +1,0 @@
--- What holds between two commands of this program, beside the law: each pointer that is named is used by its owner, since a drop is
--- retired at once. `turn` asks for it; neither `run` nor the laws of outputs speak of it.
-use Rattle.std.specs.Prelude.{◌≡◌, ◌≢◌, ℕ, true}
-use Rattle.far_core.specs.state.State.{State}
-
-pub record Between (s : State) : Type 0 where
-  pub named : (p : ℕ) → s.cell p ≢ 0 → s.used p ≡ true
