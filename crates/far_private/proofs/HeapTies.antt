@@ -109,46 +109,46 @@ module _ (o : Objects) (v : Heap) (is : heap_of o ≡ v) where
 refused_first : Bool → Bool → Option Refused
 refused_first a b = if a then (if b then None else Some Range) else Some NotHeld
 
-outside_why : (why : Refused) → IsOutside why → IsWhyNoAccess None why
-outside_why Memory h = (refl, tt)
-outside_why NoRoom h = (refl, tt)
-outside_why Device h = (refl, tt)
-outside_why Damaged h = (refl, tt)
-outside_why _ h = absurd h
+outside_why : (honest : Bool) (why : Refused) → IsOutside honest why → IsWhyNoAccess honest None why
+outside_why honest Memory h = (refl, tt)
+outside_why honest NoRoom h = (refl, tt)
+outside_why honest Device h = (refl, tt)
+outside_why honest Damaged h = (refl, h)
+outside_why honest _ h = absurd h
 
 abbrev Bars : Option Refused → Result (Unit {0}) Refused → Type 0
 Bars o r = (why : Refused) → o ≡ Some why → r ≡ Err why
 
-by_bars : (a b : Bool) (r : Result (Unit {0}) Refused) → Bars (refused_first a b) r → (refused_first a b ≡ None → IfErr r (λ why. IsOutside why)) →
-    OnOk r (refused_first a b ≡ None) × IfErr r (λ why. IsWhyNoAccess (refused_first a b) why)
+by_bars : (honest a b : Bool) (r : Result (Unit {0}) Refused) → Bars (refused_first a b) r → (refused_first a b ≡ None → IfErr r (λ why. IsOutside honest why)) →
+    OnOk r (refused_first a b ≡ None) × IfErr r (λ why. IsWhyNoAccess honest (refused_first a b) why)
 unfolding refused_first
-by_bars true true (Ok x) bars outside = (refl, tt)
-by_bars true true (Err why) bars outside = (tt, outside_why why (outside refl))
-by_bars true false (Ok x) bars outside = let odd : Ok x ≡ Err Range = bars Range refl in absurd cc
-by_bars true false (Err why) bars outside =
+by_bars honest true true (Ok x) bars outside = (refl, tt)
+by_bars honest true true (Err why) bars outside = (tt, outside_why honest why (outside refl))
+by_bars honest true false (Ok x) bars outside = let odd : Ok x ≡ Err Range = bars Range refl in absurd cc
+by_bars honest true false (Err why) bars outside =
     let odd : Err why ≡ Err Range = bars Range refl in
     let same : why ≡ Range = cc in
-    (tt, subst (λ w. IsWhyNoAccess (Some Range) w) (sym same) refl)
-by_bars false b (Ok x) bars outside = let odd : Ok x ≡ Err NotHeld = bars NotHeld refl in absurd cc
-by_bars false b (Err why) bars outside =
+    (tt, subst (λ w. IsWhyNoAccess honest (Some Range) w) (sym same) refl)
+by_bars honest false b (Ok x) bars outside = let odd : Ok x ≡ Err NotHeld = bars NotHeld refl in absurd cc
+by_bars honest false b (Err why) bars outside =
     let odd : Err why ≡ Err NotHeld = bars NotHeld refl in
     let same : why ≡ NotHeld = cc in
-    (tt, subst (λ w. IsWhyNoAccess (Some NotHeld) w) (sym same) refl)
+    (tt, subst (λ w. IsWhyNoAccess honest (Some NotHeld) w) (sym same) refl)
 
 -- an access succeeds only where nothing refuses it, and is refused by what does, or from outside
 module _ (o : Objects) (v : Heap) (is : heap_of o ≡ v) (ends : EndsThere o) (p from count : ℕ) (r : Result (Unit {0}) Refused) (bars : Bars (inner.access_refusal o p from count) r)
-    (outside : inner.access_refusal o p from count ≡ None → IfErr r (λ why. IsOutside why)) where
+    (outside : inner.access_refusal o p from count ≡ None → IfErr r (λ why. IsOutside o.honest why)) where
   pub bars_so : Bars (access_refusal v p from count) r
   bars_so why e = bars why (sym (refusal_so o v is ends p from count) ∙ e)
 
-  both : OnOk r (access_refusal v p from count ≡ None) × IfErr r (λ why. IsWhyNoAccess (access_refusal v p from count) why)
+  both : OnOk r (access_refusal v p from count ≡ None) × IfErr r (λ why. IsWhyNoAccess v.honest (access_refusal v p from count) why)
   unfolding refused_first
-  both = by_bars (has v p) (nat_lt 0 count && nat_le (from + count) (len_in v p)) r bars_so (λ e. outside (sym (refusal_so o v is ends p from count) ∙ e))
+  both = by_bars v.honest (has v p) (nat_lt 0 count && nat_le (from + count) (len_in v p)) r bars_so (λ e. subst (λ b. IfErr r (λ why. IsOutside b why)) (ap (λ (h : Heap). h.honest) is) (outside (sym (refusal_so o v is ends p from count) ∙ e)))
 
   pub done_so : OnOk r (access_refusal v p from count ≡ None)
   done_so = both.0
 
-  pub why_so : IfErr r (λ why. IsWhyNoAccess (access_refusal v p from count) why)
+  pub why_so : IfErr r (λ why. IsWhyNoAccess v.honest (access_refusal v p from count) why)
   why_so = both.1
 
 -- ---- refusals of a new object

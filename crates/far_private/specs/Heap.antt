@@ -67,19 +67,19 @@ is_logs logs = nat_le 2 logs && nat_le logs 64
 abbrev pub access_refusal : Heap → ℕ → ℕ → ℕ → Option Refused
 access_refusal h p from count = if has h p then (if nat_lt 0 count && nat_le (from + count) (len_in h p) then None else Some Range) else Some NotHeld
 
--- an access that may be made is refused where no log has room for a far object after so many rounds, or where the far side fails it
-abbrev pub IsOutside : Refused → Type 0
-IsOutside Memory = Unit {0}
-IsOutside NoRoom = Unit {0}
-IsOutside Device = Unit {0}
-IsOutside Damaged = Unit {0}
-IsOutside why = ⊥
+-- an access that may be made is refused where no log has room for a far object after so many rounds, or where the far side fails it; an honest one never gives other bytes than it should
+abbrev pub IsOutside : Bool → Refused → Type 0
+IsOutside honest Memory = Unit {0}
+IsOutside honest NoRoom = Unit {0}
+IsOutside honest Device = Unit {0}
+IsOutside honest Damaged = honest ≡ false
+IsOutside honest why = ⊥
 
 -- why an access was refused, by what refuses it before anything is done
-abbrev pub IsWhyNoAccess : Option Refused → Refused → Type 0
-IsWhyNoAccess o NotHeld = o ≡ Some NotHeld
-IsWhyNoAccess o Range = o ≡ Some Range
-IsWhyNoAccess o why = (o ≡ None) × IsOutside why
+abbrev pub IsWhyNoAccess : Bool → Option Refused → Refused → Type 0
+IsWhyNoAccess honest o NotHeld = o ≡ Some NotHeld
+IsWhyNoAccess honest o Range = o ≡ Some Range
+IsWhyNoAccess honest o why = (o ≡ None) × IsOutside honest why
 
 -- ---- when no object is made: its length is none that an object has; or each pointer has an object; or no log has room after so many rounds
 abbrev pub is_length : ℕ → Bool

@@ -34,7 +34,7 @@ pub(crate) fn change_range<D: Device + Drop, F: FnOnce(&mut [u8])>(
     ensures refused { OnErr result (objects_of (state_in evac.new) ≡ objects_of (state_in evac.old)) }
     ensures kept { OnErr result (bytes.new ≡ bytes.old) }
     ensures barred { (why : Refusal) → access_refusal (objects_of (state_in evac.old)) pointer from (length bytes.old) ≡ Some why → result ≡ Err why }
-    ensures outside { access_refusal (objects_of (state_in evac.old)) pointer from (length bytes.old) ≡ None → IfErr result (λ why. IsOutside why) }
+    ensures outside { access_refusal (objects_of (state_in evac.old)) pointer from (length bytes.old) ≡ None → IfErr result (λ why. IsOutside (state_in evac.old).honest why) }
 {
     match reach(evac, pointer, from, bytes.len()) {
         Ok(()) => {}
@@ -61,7 +61,7 @@ fn change_reached<D: Device + Drop, F: FnOnce(&mut [u8])>(
     ensures changed { OnOk result (Changes (FnOnceReturnsAtMut F.FnOnce change) pointer from (length bytes.old) bytes.new (objects_of (state_in evac.old)) (objects_of (state_in evac.new))) }
     ensures refused { OnErr result (objects_of (state_in evac.new) ≡ objects_of (state_in evac.old)) }
     ensures kept { OnErr result (bytes.new ≡ bytes.old) }
-    ensures outside { IfErr result (λ why. IsOutside why) }
+    ensures outside { IfErr result (λ why. IsOutside (state_in evac.old).honest why) }
 {
     match take(evac, pointer, from, bytes) {
         Ok(()) => {
@@ -96,7 +96,7 @@ fn take<D: Device + Drop>(
     ensures inside { OnOk result (from + length out.old ≤ data_len (state_in evac.new) pointer) }
     ensures read { OnOk result (IsRead (objects_of (state_in evac.old)) pointer from (length out.old) out.new) }
     ensures kept { OnErr result (out.new ≡ out.old) }
-    ensures outside { IfErr result (λ why. IsOutside why) }
+    ensures outside { IfErr result (λ why. IsOutside (state_in evac.old).honest why) }
 {
     match see(evac, pointer) {
         Ok(()) => {

@@ -87,8 +87,7 @@ impl<D: Device + Drop> PrivateHeap<D> {
     /// Makes an object of `len` zeros, and answers its pointer, which had none.
     ///
     /// Refused, in this order: [`Refused::Length`] unless an object has 1 to 4,088 bytes, [`Refused::NoPointer`] where each of the
-    /// 2,048 pointers has an object, and [`Refused::NoRoom`] where no log
-    /// has room after as many rounds as may bring it, since the device doesn't take what lies near.
+    /// 2,048 pointers has an object, and [`Refused::NoRoom`] where no log has room after so many rounds. Nothing has changed then.
     pub fn alloc(&mut self, len: u16, structure: u8) -> Result<u16, Refused>
         ensures made { IfOk result (λ p. (p < POINTERS) × (object self.old p ≡ None) × (self.new ≡ with_new p len structure self.old)) }
         ensures object { IfOk result (λ p. object self.new p ≡ Some (new_object self.old.honest len structure)) }
@@ -120,14 +119,14 @@ impl<D: Device + Drop> PrivateHeap<D> {
     ///
     /// Refused, in this order: [`Refused::NotHeld`] where the pointer has no object, [`Refused::Range`] where no byte is asked for
     /// or one past the object's end, and then only [`Refused::NoRoom`], [`Refused::Memory`], [`Refused::Device`] and
-    /// [`Refused::Damaged`], for an object that lies far.
+    /// [`Refused::Damaged`], for an object that lies far; the last only over a device that isn't honest.
     pub fn read(&mut self, pointer: u16, from: usize, out: &mut [u8]) -> Result<(), Refused>
         ensures same { self.new ≡ self.old }
         ensures long { length out.new ≡ length out.old }
         ensures read { OnOk result (IfSome (bytes_in self.old pointer) (λ bytes. out.new ≡ slice_range bytes from (from + length out.old))) }
         ensures done { OnOk result (access_refusal self.old pointer from (length out.old) ≡ None) }
         ensures barred { (why : Refusal) → access_refusal self.old pointer from (length out.old) ≡ Some why → result ≡ Err why }
-        ensures why { IfErr result (λ why. IsWhyNoAccess (access_refusal self.old pointer from (length out.old)) why) }
+        ensures why { IfErr result (λ why. IsWhyNoAccess self.old.honest (access_refusal self.old pointer from (length out.old)) why) }
     {
         read_range(&mut self.evac, pointer, from, out)
     }
@@ -139,7 +138,7 @@ impl<D: Device + Drop> PrivateHeap<D> {
         ensures done { OnOk result (access_refusal self.old pointer from (length bytes.now) ≡ None) }
         ensures refused { OnErr result (self.new ≡ self.old) }
         ensures barred { (why : Refusal) → access_refusal self.old pointer from (length bytes.now) ≡ Some why → result ≡ Err why }
-        ensures why { IfErr result (λ why. IsWhyNoAccess (access_refusal self.old pointer from (length bytes.now)) why) }
+        ensures why { IfErr result (λ why. IsWhyNoAccess self.old.honest (access_refusal self.old pointer from (length bytes.now)) why) }
     {
         write_range(&mut self.evac, pointer, from, bytes)
     }

@@ -74,7 +74,7 @@ pub(crate) fn read_range<D: Device + Drop>(
     ensures keeps { Keeps (state_in evac.old) (state_in evac.new) }
     ensures read { OnOk result (IfSome (bytes_in (objects_of (state_in evac.old)) pointer) (λ bytes. out.new ≡ slice_range bytes from (from + length out.old))) }
     ensures barred { (why : Refusal) → access_refusal (objects_of (state_in evac.old)) pointer from (length out.old) ≡ Some why → result ≡ Err why }
-    ensures outside { access_refusal (objects_of (state_in evac.old)) pointer from (length out.old) ≡ None → IfErr result (λ why. IsOutside why) }
+    ensures outside { access_refusal (objects_of (state_in evac.old)) pointer from (length out.old) ≡ None → IfErr result (λ why. IsOutside (state_in evac.old).honest why) }
     ensures far { access_refusal (objects_of (state_in evac.old)) pointer from (length out.old) ≡ None → IfErr result (λ why. StaysFar D D.reads (state_in evac.new) pointer evac.new.book.device why) }
     ensures near { access_refusal (objects_of (state_in evac.old)) pointer from (length out.old) ≡ None → says_near (read_of ((state_in evac.old).cell pointer)) ≡ true → result ≡ Ok tt }
 {
@@ -215,7 +215,7 @@ pub(crate) fn write_range<D: Device + Drop>(
     ensures written { OnOk result (objects_of (state_in evac.new) ≡ with_written pointer from bytes.now (objects_of (state_in evac.old))) }
     ensures refused { OnErr result (objects_of (state_in evac.new) ≡ objects_of (state_in evac.old)) }
     ensures barred { (why : Refusal) → access_refusal (objects_of (state_in evac.old)) pointer from (length bytes.now) ≡ Some why → result ≡ Err why }
-    ensures outside { access_refusal (objects_of (state_in evac.old)) pointer from (length bytes.now) ≡ None → IfErr result (λ why. IsOutside why) }
+    ensures outside { access_refusal (objects_of (state_in evac.old)) pointer from (length bytes.now) ≡ None → IfErr result (λ why. IsOutside (state_in evac.old).honest why) }
     ensures away { access_refusal (objects_of (state_in evac.old)) pointer from (length bytes.now) ≡ None → IfErr result (λ why. StaysAway D D.reads (state_in evac.new) pointer evac.new.book.device why) }
 {
     match reach(evac, pointer, from, bytes.len()) {

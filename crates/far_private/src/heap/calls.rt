@@ -68,7 +68,7 @@ impl<D: Device + Drop> PrivateHeap<D> {
         ensures refused { OnErr result (self.new ≡ self.old) }
         ensures kept { OnErr result (bytes.new ≡ bytes.old) }
         ensures barred { (why : Refusal) → access_refusal self.old pointer from (length bytes.old) ≡ Some why → result ≡ Err why }
-        ensures why { IfErr result (λ why. IsWhyNoAccess (access_refusal self.old pointer from (length bytes.old)) why) }
+        ensures why { IfErr result (λ why. IsWhyNoAccess self.old.honest (access_refusal self.old pointer from (length bytes.old)) why) }
     {
         change_range(&mut self.evac, pointer, from, bytes, change)
     }

@@ -2,7 +2,7 @@ use Rattle.std.proofs.Common.{◌+◌, length, refl}
 use Rattle.far_private.specs.Objects.{state_in}
 use Rattle.far_private.proofs.Bytes.{read_so}
 use Rattle.far_private.proofs.HeldRanges.{held_fits, held_says}
-use Rattle.far_private.proofs.Outside.{away_outside}
+use Rattle.far_private.proofs.Outside.{away_outside, outside_before}
 use Rattle.far_private.proofs.changing.take.Goals as goal
 
 pub copy_near-requires-clause-near : goal.copy_near-requires-clause-near
@@ -32,5 +32,6 @@ returns-in-Err g c = record {
   inside = tt;
   read = tt;
   kept = refl;
-  outside = away_outside g.D.Device.reads (state_in c.see.new.evac) c.args.pointer c.see.new.evac.book.device c.in-Err.why c.in-Err.ensures.away;
+  outside = outside_before (state_in c.args.evac.now) (state_in c.see.new.evac) c.see.ensures.keeps c.in-Err.why
+      (away_outside g.D.Device.reads (state_in c.see.new.evac) c.args.pointer c.see.new.evac.book.device c.in-Err.why c.in-Err.ensures.away);
 }
