@@ -1,12 +1,14 @@
 #!/usr/bin/env python3
-"""Runs soak_far_heap over a file that fails: one that may grow to so many bytes only, one of which one read or write fails, or does half, one that gives other
-bytes, and one that can't be made, or keeps its name; where standard streams are closed; where threads can't be made; and with words that it must refuse.
+"""Runs soak_far_heap over a file that fails: one that may grow to so many bytes only, one of which one read or write fails, or does half, or each write from one
+on, one whose calls are interrupted, one that gives other bytes, and one that can't be made, or keeps its name; where standard streams are closed; where threads can't
+be made; and with words that it must refuse.
 
 usage: fail_file.py SOAK
 A read or a write that does half of what was asked is gone on with. What fails is told, and so are other bytes, whichever byte of an object it is: the soak counts
 a wrong answer, as of any device that isn't to fail, and ends with status 1; no read that the heap grants gives a wrong byte. The file of a run that is killed is
 gone; it stands for none of the standard streams, and nobody but its owner may read it. Prints only what is wrong.
 """
+import errno
 import os
 import re
 import resource
@@ -17,8 +19,12 @@ import tempfile
 import time
 
 HERE = os.path.dirname(os.path.abspath(__file__))
-# A slot has 4,096 bytes: the file ends within the first two. From then on each round fails, so these runs are short.
-LIMITS = (0, 1, 4_200)
+# Slots begin at 16,384: the file ends before the first, within it, or some behind it. From then on each round fails, so these runs are short.
+LIMITS = (0, 16_384, 16_400, 20_123)
+# A full disk, a quota, a medium that fails, a server whose file is gone.
+ERRORS = (errno.ENOSPC, errno.EDQUOT, errno.EIO, errno.ESTALE)
+# A place that can't be written, a folder without the right to, a system without descriptors.
+UNMADE = (errno.EROFS, errno.EACCES, errno.EMFILE)
 CALLS = (1, 2, 3, 9, 40, 200)
 # The first byte of an object, the last of the shortest, and some behind it.
 FLIPPED = (1, 2, 9, 64)
@@ -89,6 +95,14 @@ def fails(program: str, library: str) -> None:
     run_each("at most so many bytes:", {limit: run(program, *FEW, limit=limit) for limit in LIMITS})
     run_each("call", {nth: run(program, *ASKED, LD_PRELOAD=library, FAIL_CALL=str(nth)) for nth in CALLS})
     run_each("another byte", {byte: run(program, *ASKED, LD_PRELOAD=library, FAIL_FLIP=str(byte)) for byte in FLIPPED})
+    for why in ERRORS:
+        full = {nth: run(program, *FEW, LD_PRELOAD=library, FAIL_FULL=str(nth), FAIL_WITH=str(why)) for nth in (1, 9)}
+        run_each(f"error {why} of each write from", full)
+    came = run(program, *ASKED, LD_PRELOAD=library, FAIL_INTERRUPT="99")
+    expect("calls that are interrupted 99 times", is_whole(came), came)
+    # Twice as often as one is tried again.
+    came = run(program, *ASKED, LD_PRELOAD=library, FAIL_INTERRUPT="20000")
+    expect("calls that are interrupted too often", is_told(came), came)
     for nth in CALLS:
         came = run(program, *ASKED, LD_PRELOAD=library, FAIL_CALL=str(nth), FAIL_SHORT="1")
         expect(f"call {nth} does half", is_whole(came), came)
@@ -130,6 +144,15 @@ def opens(program: str, library: str) -> None:
     expect("a file that keeps its name", came == (2, "", KEEPS) and os.path.getsize(FILE) == 0, came)
     came = run(program, *ASKED)
     expect("a file that is there", came == (2, "", THERE), came)
+    os.remove(FILE)
+    for what, makes in (("a directory", os.mkdir), ("a pipe", os.mkfifo)):
+        makes(FILE)
+        came = run(program, *ASKED)
+        expect(f"{what} that is there", came == (2, "", THERE), came)
+        (os.rmdir if what == "a directory" else os.remove)(FILE)
+    for why in UNMADE:
+        came = run(program, *ASKED, LD_PRELOAD=library, FAIL_OPEN=str(why))
+        expect(f"a file that can't be made for {why}", came == (2, "", f"soak_far_heap: {FILE}: {os.strerror(why)} (os error {why})\n"), came)
 
 
 def refuses(program: str, library: str) -> None:

@@ -3,7 +3,7 @@ use Rattle.std.proofs.Common.{◌≡◌, ℕ, zero, suc, Option, Some, None, ref
 use Rattle.far_file.specs.Faults.{RoomIsToldFull, Tells, fault_number}
 use Rattle.far_file.specs.declared.fault.FileFault.{FileFault}
 use Rattle.far_file.specs.declared.fault.FileFault.TheVariants.{NoSlot, Nothing, Misfit, Storage}
-use Rattle.far_file.specs.declared.fault.StorageFault.TheVariants.{Memory, Short, Full, Failed}
+use Rattle.far_file.specs.declared.fault.StorageFault.TheVariants.{Memory, Short, Full, Medium, Interrupted, Failed}
 use Rattle.far_file.specs.declared.last_fault.KeyFault.{KeyFault}
 
 -- the fault of a number
@@ -14,7 +14,9 @@ numbered (suc (suc (suc zero))) = Some Misfit
 numbered (suc (suc (suc (suc zero)))) = Some (Storage Memory)
 numbered (suc (suc (suc (suc (suc zero))))) = Some (Storage Short)
 numbered (suc (suc (suc (suc (suc (suc zero)))))) = Some (Storage Full)
-numbered (suc (suc (suc (suc (suc (suc (suc zero))))))) = Some (Storage Failed)
+numbered (suc (suc (suc (suc (suc (suc (suc zero))))))) = Some (Storage Medium)
+numbered (suc (suc (suc (suc (suc (suc (suc (suc zero)))))))) = Some (Storage Interrupted)
+numbered (suc (suc (suc (suc (suc (suc (suc (suc (suc zero))))))))) = Some (Storage Failed)
 numbered n = None
 
 back : (fault : FileFault) → numbered (fault_number fault) ≡ Some fault
@@ -24,6 +26,8 @@ back Misfit = refl
 back (Storage Memory) = refl
 back (Storage Short) = refl
 back (Storage Full) = refl
+back (Storage Medium) = refl
+back (Storage Interrupted) = refl
 back (Storage Failed) = refl
 
 -- the same number is of the same fault, and none has 0

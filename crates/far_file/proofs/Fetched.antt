@@ -1,8 +1,7 @@
 -- Bytes that come back from a slot.
-use Rattle.std.proofs.Common.{◌≡◌, ◌∙◌, ◌+◌, ◌<◌, ◌*◌, ◌++◌, ap, sym, subst, refl, ℕ, Bool, true, false, List, length, take, drop, Option, Some, None, IfSome, arith}
+use Rattle.std.proofs.Common.{◌≡◌, ◌∙◌, ◌<◌, ◌++◌, sym, subst, refl, ℕ, Bool, true, false, List, length, take, drop, Option, Some, None, IfSome, arith}
 use Rattle.std.proofs.lemmas.List.{ext_get_or, take_all, take-append-le}
 use Rattle.far_file.specs.Positions.{HoldsAt}
-use Rattle.far_file.specs.declared.sealed.TheConstants.{SLOT}
 
 -- what holds of the bytes that are found
 pub of_found : (found : Option (List ℕ)) (held : List ℕ) (P : List ℕ → Type 0) → found ≡ Some held → P held → IfSome found P
@@ -23,11 +22,9 @@ nothing_said (Some held) = tt
 pub refilled : (n : ℕ) (old new : List ℕ) → length new ≡ n → take n (new ++ drop (length new) old) ≡ new
 refilled n old new long = take-append-le n new (drop (length new) old) (omega arith) ∙ take_all n new (omega arith)
 
--- bytes that are read from a slot are those that stand there
-pub came_back : (seen : ℕ → ℕ) (id : ℕ) (got stored : List ℕ) → length got ≡ length stored → HoldsAt seen (id * SLOT) got → HoldsAt seen (SLOT * id) stored → got ≡ stored
-came_back seen id got stored long gives stands =
-    let same : id * SLOT ≡ SLOT * id = omega arith in
-    ext_get_or 0 got stored long (λ k below. let in_stored : k < length stored = omega arith in sym (gives k below) ∙ ap (λ at. seen (at + k)) same ∙ stands k in_stored)
+-- bytes that are read from a place are those that stand there
+pub came_back : (seen : ℕ → ℕ) (at : ℕ) (got stored : List ℕ) → length got ≡ length stored → HoldsAt seen at got → HoldsAt seen at stored → got ≡ stored
+came_back seen at got stored long gives stands = ext_get_or 0 got stored long (λ k below. let in_stored : k < length stored = omega arith in sym (gives k below) ∙ stands k in_stored)
 
 -- a call that is told by as many bytes, and the same
 pub told_by : (P : ℕ → List ℕ → Type 0) (m n : ℕ) (a b : List ℕ) → m ≡ n → a ≡ b → P m a → P n b

@@ -2,7 +2,7 @@
 use Rattle.std.proofs.Common.{◌<◌, ◌∙◌, length, Ok, Err, refl, ap, sym, inl, inr, arith}
 use Rattle.std.proofs.lemmas.List.{ext_get_or}
 use Rattle.far_file.specs.Mem.{PutIsRefusedSo, PutIsThere}
-use Rattle.far_file.specs.declared.fault.StorageFault.TheVariants.{Memory, Short, Full, Failed}
+use Rattle.far_file.specs.declared.fault.StorageFault.TheVariants.{Memory, Short, Full, Medium, Interrupted, Failed}
 
 pub put_is_there : PutIsThere
 put_is_there old new at bytes done (Err why) put got = absurd (omega (arith, put.1, got.1))
@@ -12,4 +12,6 @@ pub put_is_refused : PutIsRefusedSo
 put_is_refused old new at bytes Memory put = inr (put.0, refl)
 put_is_refused old new at bytes Short put = absurd put
 put_is_refused old new at bytes Full put = inl (put.0, refl)
+put_is_refused old new at bytes Medium put = absurd put
+put_is_refused old new at bytes Interrupted put = absurd put
 put_is_refused old new at bytes Failed put = absurd put

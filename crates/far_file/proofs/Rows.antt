@@ -1,16 +1,16 @@
--- A row that becomes longer by an empty slot holds what it held.
-use Rattle.std.proofs.Common.{◌≡◌, ◌∙◌, ◌≤◌, ap, ℕ, zero, suc, Bool, true, false, ◌||◌, List, [], ◌∷◌, ◌++◌, length, replicate, take, Option, None, slice_index, refl}
+-- A row that becomes longer by a key without bytes says of each key what it said.
+use Rattle.std.proofs.Common.{◌≡◌, ◌∙◌, ◌≤◌, ap, ℕ, zero, suc, Bool, true, false, ◌||◌, List, [], ◌∷◌, ◌++◌, length, replicate, take, None, slice_index, refl}
 use Rattle.std.specs.Prelude.{if◌then◌else◌}
 use Rattle.std.proofs.lemmas.List.{take_all}
-use Rattle.far_file.specs.Row.{bytes_in}
+use Rattle.far_file.specs.Row.{entry_in, known}
 use Rattle.far_file.specs.declared.held.Held.{Held}
 use Rattle.far_file.specs.declared.seal.Seal.{Ghosts}
 
-pub longer : {L : Type 0} {l : Ghosts L} (slots : List (Option (Held L l))) (k : ℕ) → bytes_in (slots ++ None ∷ []) k ≡ bytes_in slots k
-longer [] zero = refl
-longer [] (suc k) = refl
-longer (y ∷ slots) zero = refl
-longer (y ∷ slots) (suc k) = longer slots k
+pub longer : {L : Type 0} {l : Ghosts L} (row : List (Held L l)) (held : Held L l) (k : ℕ) → known held ≡ None → entry_in (row ++ held ∷ []) k ≡ entry_in row k
+longer [] held zero none = none
+longer [] held (suc k) none = refl
+longer (y ∷ row) held zero none = refl
+longer (y ∷ row) held (suc k) none = longer row held k none
 
 -- bytes that become longer by zeros read as before
 zeros_read : (n k : ℕ) → slice_index (replicate n 0) k ≡ 0

@@ -1,8 +1,14 @@
+pub mod Code
 pub mod Digests
+pub mod Entry
 pub mod Faults
+pub mod Free
 pub mod Gave
 pub mod Mem
+pub mod Out
+pub mod Owning
 pub mod Positions
 pub mod Row
 pub mod SealedCalls
 pub mod SealedFollowing
+pub mod Where

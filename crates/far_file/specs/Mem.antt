@@ -3,7 +3,7 @@ use Rattle.std.specs.Prelude.{◌≡◌, ℕ, ◌+◌, ◌^◌, ◌<◌, ◌≤�
 use Rattle.std.specs.Vec.{vec_capacity, vec_len}
 use Rattle.far_file.specs.Positions.{HoldsAt, KeepsOutside}
 use Rattle.far_file.specs.declared.fault.StorageFault.{StorageFault}
-use Rattle.far_file.specs.declared.fault.StorageFault.TheVariants.{Memory, Short, Full, Failed}
+use Rattle.far_file.specs.declared.fault.StorageFault.TheVariants.{Memory, Short, Full, Medium, Interrupted, Failed}
 use Rattle.far_file.specs.declared.memory.MemStorage.{MemStorage}
 
 -- a get: all that were asked for are there, and it gives those; or some of them aren't
@@ -20,6 +20,8 @@ MemPuts old at bytes (Ok done) new =
 MemPuts old at bytes (Err Memory) new = (at + length bytes < 2 ^ 64) × (vec_capacity old.bytes < at + length bytes) × (new.bytes.items ≡ old.bytes.items)
 MemPuts old at bytes (Err Short) new = ⊥
 MemPuts old at bytes (Err Full) new = (2 ^ 64 ≤ at + length bytes) × (new ≡ old)
+MemPuts old at bytes (Err Medium) new = ⊥
+MemPuts old at bytes (Err Interrupted) new = ⊥
 MemPuts old at bytes (Err Failed) new = ⊥
 
 -- what was put is there: a get of as many bytes from the same position gives those, and no fault

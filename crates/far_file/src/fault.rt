@@ -11,6 +11,10 @@ pub enum StorageFault {
     Short,
     #[error("there was no room for the bytes")]
     Full,
+    #[error("the medium failed, or the server that has it")]
+    Medium,
+    #[error("calls of the system were interrupted again and again")]
+    Interrupted,
     #[error("the system failed")]
     Failed,
 }
@@ -18,7 +22,7 @@ pub enum StorageFault {
 /// Why a call of a device over storage answered that the device failed.
 #[derive(Clone, Copy, Debug, PartialEq, Eq, Error)]
 pub enum FileFault {
-    #[error("the key has no slot, or a slot has no room for so many bytes")]
+    #[error("the key has no slot, no slot has room for so many bytes, or none is left")]
     NoSlot,
     #[error("nothing is under the key")]
     Nothing,

@@ -1,6 +1,6 @@
 //! The last fault of a device, for those who ask while another has the device.
 
-ghost use Rattle.std.specs.Prelude.{◌≡◌, ◌<◌, ◌^◌, ℕ, Option, Some};
+ghost use Rattle.std.specs.Prelude.{◌≡◌, ◌<◌, ◌≤◌, ◌%◌, ◌^◌, ℕ, Option, Some};
 ghost use Rattle.far_file.specs.Faults.{fault_number, Tells};
 ghost use Rattle.far_file.specs.declared.last_fault.KeyFault.{KeyFault};
 
@@ -16,11 +16,11 @@ pub struct KeyFault {
     pub why: FileFault,
 }
 
-// Words of a fault or of none: a key above three bits.
+// Words of a fault or of none: a key above four bits, which have its number.
 pub(crate) struct FaultWord;
 
 impl Rule for FaultWord {
-    ghost invariant = { λ word. word < 2 ^ 35 };
+    ghost invariant = { λ word. (word < 2 ^ 36) × (word % 16 ≤ 9) };
 }
 
 /// Tells the last fault of a device, whoever has that now. Others may ask at the same time, by handles of their own.
@@ -62,18 +62,20 @@ pub fn words_tell_one_fault()
 
 // The word that tells a fault.
 fn word_of(told: KeyFault) -> u64
-    ensures below { result < 2 ^ 35 }
+    ensures below { result < 2 ^ 36 }
+    ensures low { result % 16 ≤ 9 }
     ensures tells { Tells result (Some told) }
 {
-    8 * told.key as u64 + number(told.why)
+    16 * told.key as u64 + number(told.why)
 }
 
 // What a word tells.
 fn told_by(word: u64) -> Option<KeyFault>
-    requires { word < 2 ^ 35 }
+    requires below { word < 2 ^ 36 }
+    requires low { word % 16 ≤ 9 }
     ensures { Tells word result }
 {
-    let why = match word % 8 {
+    let why = match word % 16 {
         0 => return None,
         1 => FileFault::NoSlot,
         2 => FileFault::Nothing,
@@ -81,9 +83,11 @@ fn told_by(word: u64) -> Option<KeyFault>
         4 => FileFault::Storage(StorageFault::Memory),
         5 => FileFault::Storage(StorageFault::Short),
         6 => FileFault::Storage(StorageFault::Full),
+        7 => FileFault::Storage(StorageFault::Medium),
+        8 => FileFault::Storage(StorageFault::Interrupted),
         _ => FileFault::Storage(StorageFault::Failed),
     };
-    let key = (word / 8) as u32;
+    let key = (word / 16) as u32;
     Some(KeyFault { key, why })
 }
 
@@ -97,6 +101,8 @@ fn number(why: FileFault) -> u64
         FileFault::Storage(StorageFault::Memory) => 4,
         FileFault::Storage(StorageFault::Short) => 5,
         FileFault::Storage(StorageFault::Full) => 6,
-        FileFault::Storage(StorageFault::Failed) => 7,
+        FileFault::Storage(StorageFault::Medium) => 7,
+        FileFault::Storage(StorageFault::Interrupted) => 8,
+        FileFault::Storage(StorageFault::Failed) => 9,
     }
 }

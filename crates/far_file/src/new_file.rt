@@ -5,6 +5,7 @@ ghost use Rattle.std.specs.Fs.{asks_read, asks_write, asks_append, asks_truncate
 
 use std::fs::{File, Files, OpenOptions};
 use std::io;
+use std::io::ErrorKind;
 use std::os::fd::AsRawFd;
 use std::os::unix::fs::OpenOptionsExt;
 use std::path::AsPath;
@@ -34,9 +35,14 @@ impl NewFile {
     }
 
     /// Makes the file and opens it, for its owner alone: nobody else may read it, unless it was there before. Nobody else may use it while the device does, and it
-    /// isn't taken away afterwards. Where standard input, output or errors are closed, it doesn't stand for them.
+    /// isn't taken away afterwards. Where standard input, output or errors are closed, it doesn't stand for them. Refused `InvalidInput` for what isn't a file, as a pipe
+    /// or a device; else with the system's own error: `AlreadyExists`, `IsADirectory`, `NotFound`, `PermissionDenied`, `ReadOnlyFilesystem` and others.
     pub fn open<R: Files<File = File>, P: AsPath>(self, files: &R, path: P) -> io::Result<File> {
         let file = self.options().open(files, path)?;
+        if !file.metadata()?.is_file() {
+            let why = "what has the name is no file of bytes at positions";
+            return Err(io::Error::new(ErrorKind::InvalidInput, why));
+        }
         if file.as_raw_fd() > LAST_STREAM {
             return Ok(file);
         }

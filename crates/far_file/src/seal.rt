@@ -20,6 +20,9 @@ pub trait Seal: Drop {
     fn seal(alloc: Global, bytes: &[u8]) -> Option<Self>
         ensures { IfSome result (λ seal. kept seal ≡ digest bytes.now) };
 
+    /// Any seal, in the place of one where nothing is to be sealed. Takes no memory.
+    fn blank(alloc: Global) -> Self;
+
     /// Whether the seal may be one of these bytes.
     fn fits(&self, bytes: &[u8]) -> bool
         ensures only { result ≡ true → kept self.now ≡ digest bytes.now }
@@ -47,6 +50,11 @@ impl Seal for NoSeal {
     #[inline(always)]
     fn seal(_alloc: Global, _bytes: &[u8]) -> Option<NoSeal> {
         Some(NoSeal)
+    }
+
+    #[inline(always)]
+    fn blank(_alloc: Global) -> NoSeal {
+        NoSeal
     }
 
     #[inline(always)]
@@ -99,6 +107,10 @@ impl Seal for Digest {
         Some(Digest::of(bytes))
     }
 
+    fn blank(_alloc: Global) -> Digest {
+        Digest { digest: 0 }
+    }
+
     fn fits(&self, bytes: &[u8]) -> bool {
         Digest::of(bytes).digest == self.digest
     }
@@ -122,6 +134,12 @@ impl Seal for WholeCopy {
     fn seal(alloc: Global, bytes: &[u8]) -> Option<WholeCopy> {
         let bytes = Vec::from_slice(alloc, bytes).ok()?;
         Some(WholeCopy { bytes })
+    }
+
+    fn blank(alloc: Global) -> WholeCopy {
+        WholeCopy {
+            bytes: Vec::new(alloc),
+        }
     }
 
     fn fits(&self, bytes: &[u8]) -> bool {

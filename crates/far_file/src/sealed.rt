@@ -6,40 +6,47 @@ ghost use Rattle.far_device.specs.Contents.{KeepsOthers};
 ghost use Rattle.far_device.specs.Faults.{is_fault};
 ghost use Rattle.far_device.specs.declared.fault.DeviceFault.TheVariants.{Memory, Device as Failed};
 ghost use Rattle.far_file.specs.declared.fault.FileFault.TheVariants.{NoSlot, Nothing};
-ghost use Rattle.far_file.specs.declared.sealed.TheConstants.{KEYS, SLOT};
+ghost use Rattle.far_file.specs.declared.place.TheConstants.{CLASSES, KEYS, SLOT, SLOTS};
 ghost use Rattle.far_file.specs.Faults.{CanStopRead, StoppedRead, StoppedWrite};
 ghost use Rattle.far_file.specs.Positions.{HoldsAt};
-ghost use Rattle.far_file.specs.Row.{bytes_in, Stands};
+ghost use Rattle.far_file.specs.Owning.{owner_in};
+ghost use Rattle.far_file.specs.Entry.{len_in, slot_in};
+ghost use Rattle.far_file.specs.Row.{bytes_of, entry_in, known, AreKept, IsKept, IsUnused, KeepsEntries};
+ghost use Rattle.far_file.specs.Free.{AreOwned, IsFree};
+ghost use Rattle.far_file.specs.Where.{class_in, page_in, scale, slot_at, HasExtent};
 
+use crate::class::Want;
+use crate::code::Code;
+use crate::extents::Extents;
 use crate::fault::{FileFault, StorageFault};
 use crate::held::Held;
 use crate::last_fault::{KeyFault, LastFault};
+use crate::place::{KEYS, SLOT, class_of};
+use crate::room::Room;
+use crate::row::{count_held, entry, lengthen, nothing, set_entry};
 use crate::seal::{NoSeal, Seal};
+use crate::statistics::FileStatistics;
 use crate::storage::Storage;
 use far_device::{Device, DeviceFault};
 use std::alloc::{AllocError, Global};
 use std::snapshot::Snapshot;
 
-/// Only keys below this one have a slot.
-pub(crate) const KEYS: u32 = 2048;
-
-/// How many bytes a slot has room for.
-pub(crate) const SLOT: u64 = 4096;
-
-/// The keys that have a slot are as many as the pointers of the largest heap, and a slot has room for a log's words, so for any object.
+/// The keys that may have a slot are as many as the pointers of the largest heap, and the largest slots have room for a log's words, so for any object.
 pub fn slots_are()
     ensures keys { KEYS ≡ 2048 }
     ensures slot { SLOT ≡ 4096 }
 {}
 
-/// A device over storage, in which each key below 2,048 has a slot of 4,096 bytes, and a seal in memory: bytes that come back and
-/// don't fit theirs are a fault, and aren't given. It is honest if the storage is honest or the seals are exact.
+/// A device over storage, in which each of the keys below 2,048 that has bytes has the smallest slot with room for them, of 64 bytes to 4,096, and a
+/// seal in memory: bytes that come back and don't fit theirs are a fault, and aren't given. It is honest if the storage is honest or the seals are exact.
 #[derive(Drop)]
 pub struct SealedDevice<F: Storage + Drop, L: Seal> {
     pub(crate) alloc: Global,
     pub(crate) storage: F,
-    // What is known of the slots, as far as one was written.
-    pub(crate) row: Vec<Option<Held<L>>>,
+    // What is known of the keys, as far as one was written.
+    pub(crate) row: Vec<Held<L>>,
+    // Their slots.
+    pub(crate) room: Room,
     // The bytes that are written, for clauses to speak of.
     pub(crate) last: Vec<u8>,
     pub(crate) faults: u64,
@@ -47,17 +54,28 @@ pub struct SealedDevice<F: Storage + Drop, L: Seal> {
     pub(crate) told: Option<KeyFault>,
     // Who asks for the last fault, if anyone does.
     pub(crate) asked: Option<LastFault>,
-    ghost stands: { F.Storage.honest storage ≡ true → Stands (F.Storage.seen storage) (bytes_in row.items) },
+    ghost kept: { AreKept (F.Storage.seen storage) (F.Storage.honest storage) (owner_in room.classes) room.extents.items (entry_in row.items) },
 }
 
 /// The same without seals. It is honest if the storage is.
 pub type FileDevice<F> = SealedDevice<F, NoSeal>;
 
 impl<F: Storage + Drop, L: Seal> SealedDevice<F, L> {
-    ghost use Rattle.far_file.specs.SealedCalls.{bytes_at, faults_of};
+    ghost use Rattle.far_file.specs.SealedCalls.{bytes_at, faults_of, place_at};
+    ghost use Rattle.far_file.specs.Out.{HasNoMore, IsOut};
 
     /// A device that holds nothing, over storage that nobody else uses. What the storage has is passed over.
     pub fn new(alloc: Global, storage: F) -> SealedDevice<F, L>
+        ensures contents { bytes_at result ≡ (λ _. None) }
+        ensures faults { faults_of result ≡ 0 }
+        ensures storage { result.storage ≡ storage }
+        ensures told { result.told ≡ None }
+    {
+        SealedDevice::<F, L>::over(alloc, storage, None)
+    }
+
+    /// The same over storage that others use too, which take their extents from the same.
+    pub(crate) fn over(alloc: Global, storage: F, shared: Option<Extents>) -> SealedDevice<F, L>
         ensures contents { bytes_at result ≡ (λ _. None) }
         ensures faults { faults_of result ≡ 0 }
         ensures storage { result.storage ≡ storage }
@@ -67,6 +85,7 @@ impl<F: Storage + Drop, L: Seal> SealedDevice<F, L> {
             alloc,
             storage,
             row: Vec::new(alloc),
+            room: Room::new(alloc, shared),
             last: Vec::new(alloc),
             faults: 0,
             told: None,
@@ -102,12 +121,24 @@ impl<F: Storage + Drop, L: Seal> SealedDevice<F, L> {
         Ok(handed)
     }
 
+    /// What the device has of its storage. It goes over all keys and slots.
+    pub fn statistics(&self) -> FileStatistics {
+        let (keys, bytes) = count_held(self.row.as_slice());
+        FileStatistics {
+            keys,
+            bytes,
+            classes: self.room.statistics(),
+            end: self.room.end(),
+        }
+    }
+
     // Counts a fault of a key's call, and tells it to who asks.
     fn fail(&mut self, key: u32, why: FileFault) -> DeviceFault
         ensures fault { result ≡ Failed }
         ensures contents { bytes_at self.new ≡ bytes_at self.old }
         ensures others { (q : ℕ) → bytes_at self.new q ≡ bytes_at self.old q }
         ensures storage { self.new.storage ≡ self.old.storage }
+        ensures room { self.new.room ≡ self.old.room }
         ensures counted { faults_of self.new ≡ (faults_of self.old + 1) % 2 ^ 64 }
         ensures told { self.new.told ≡ Some record { key = key; why = why } }
     {
@@ -120,12 +151,12 @@ impl<F: Storage + Drop, L: Seal> SealedDevice<F, L> {
         DeviceFault::Device
     }
 
-    // What is known of a key's slot.
+    // What is known of a key that has bytes.
     fn held(&self, id: u32) -> Option<&Held<L>>
-        ensures some { IfSome result (λ held. bytes_at self.now id ≡ Some held.now.was.value.items) }
+        ensures some { IfSome result (λ held. entry_in self.now.row.items id ≡ Some held.now) }
         ensures none { IfNone result (bytes_at self.now id ≡ None) }
     {
-        self.row.get(id as usize)?.as_ref()
+        entry(&self.row, id)
     }
 
     // How many bytes are under a key.
@@ -135,7 +166,7 @@ impl<F: Storage + Drop, L: Seal> SealedDevice<F, L> {
         ensures none { IfNone result (bytes_at self.now id ≡ None) }
     {
         let held = self.held(id)?;
-        Some(held.len)
+        Some(held.code.len())
     }
 
     // Fills a buffer from a key's slot, with bytes that fit their seal.
@@ -143,15 +174,17 @@ impl<F: Storage + Drop, L: Seal> SealedDevice<F, L> {
         requires { IfSome (bytes_at self.now id) (λ stored. length stored ≡ vec_len buffer.old) }
         ensures by_storage { F.Storage.honest self.now.storage ≡ true → OnOk result (IfSome (bytes_at self.now id) (λ stored. buffer.new.items ≡ stored)) }
         ensures by_seal { L.Seal.exact ≡ true → OnOk result (IfSome (bytes_at self.now id) (λ stored. buffer.new.items ≡ stored)) }
-        ensures why { IfSome (bytes_at self.now id) (λ stored. IfErr result (CanStopRead (F.Storage.honest self.now.storage) (F.Storage.gets self.now.storage (id * SLOT) (length stored)))) }
-        ensures called { IfSome (bytes_at self.now id) (λ stored. OnOk result (F.Storage.gets self.now.storage (id * SLOT) (length stored) (Ok buffer.new.items))) }
+        ensures why { IfSome (bytes_at self.now id) (λ stored. IfErr result (CanStopRead (F.Storage.honest self.now.storage) (F.Storage.gets self.now.storage (place_at self.now id) (length stored)))) }
+        ensures called { IfSome (bytes_at self.now id) (λ stored. OnOk result (F.Storage.gets self.now.storage (place_at self.now id) (length stored) (Ok buffer.new.items))) }
         ensures len { vec_len buffer.new ≡ vec_len buffer.old }
         ensures room { vec_capacity buffer.old ≤ vec_capacity buffer.new }
     {
         let Some(held) = self.held(id) else {
             return Err(FileFault::Nothing);
         };
-        if let Err(why) = self.storage.get(id as u64 * SLOT, buffer.as_mut_slice()) {
+        let code = held.code;
+        let at = self.room.at(class_of(code.len() as usize), code.slot());
+        if let Err(why) = self.storage.get(at, buffer.as_mut_slice()) {
             return Err(FileFault::Storage(why));
         }
         if held.seal.fits(buffer.as_slice()) {
@@ -161,74 +194,137 @@ impl<F: Storage + Drop, L: Seal> SealedDevice<F, L> {
         }
     }
 
+    // Sets what is known of a key, and lets go of the slot that it had.
+    fn set(&mut self, id: u32, held: Held<L>)
+        requires row { id < vec_len self.old.row }
+        requires kept { IfSome (known held) (IsKept (F.Storage.seen self.old.storage) (F.Storage.honest self.old.storage) (owner_in self.old.room.classes) self.old.room.extents.items id) }
+        requires unused { IfSome (known held) (λ held. IsUnused (entry_in self.old.row.items) (class_in (len_in held)) (slot_in held)) }
+        ensures set { entry_in self.new.row.items id ≡ known held }
+        ensures others { KeepsOthers (bytes_at self.old) (bytes_at self.new) id }
+        ensures freed { IfSome (entry_in self.old.row.items id) (λ held. IsFree (owner_in self.new.room.classes (class_in (len_in held)) (slot_in held))) }
+        ensures extents { self.new.room.extents ≡ self.old.room.extents }
+        ensures storage { self.new.storage ≡ self.old.storage }
+        ensures row { vec_len self.new.row ≡ vec_len self.old.row }
+        ensures last { self.new.last ≡ self.old.last }
+        ensures faults { faults_of self.new ≡ faults_of self.old }
+        ensures told { self.new.told ≡ self.old.told }
+    {
+        let was = set_entry(&mut self.row, id, held);
+        let len = was.code.len();
+        if len as u64 <= SLOT {
+            self.room.free(class_of(len as usize), was.code.slot());
+        }
+    }
+
     // Lets go of a key.
     fn empty(&mut self, id: u32)
         ensures gone { bytes_at self.new id ≡ None }
         ensures others { KeepsOthers (bytes_at self.old) (bytes_at self.new) id }
+        ensures freed { IfSome (entry_in self.old.row.items id) (λ held. IsFree (owner_in self.new.room.classes (class_in (len_in held)) (slot_in held))) }
         ensures storage { self.new.storage ≡ self.old.storage }
-        ensures row { vec_len self.new.row ≡ vec_len self.old.row }
-        ensures last { self.new.last ≡ self.old.last }
         ensures faults { faults_of self.new ≡ faults_of self.old }
         ensures told { self.new.told ≡ self.old.told }
     {
-        if let Some(slot) = self.row.get_mut(id as usize) {
-            *slot = None;
+        if (id as usize) < self.row.len() {
+            self.set(id, nothing(self.alloc));
         }
     }
 
-    // Puts bytes into the slot of a key under which nothing is.
-    fn put(&mut self, id: u32, bytes: &[u8]) -> Result<(), StorageFault>
-        requires free { bytes_at self.old id ≡ None }
-        requires few { length bytes.now ≤ SLOT }
-        ensures called { F.Storage.puts self.old.storage (id * SLOT) bytes.now result self.new.storage }
-        ensures put { F.Storage.honest self.old.storage ≡ true → OnOk result (HoldsAt (F.Storage.seen self.new.storage) (SLOT * id) bytes.now) }
-        ensures honest { F.Storage.honest self.new.storage ≡ F.Storage.honest self.old.storage }
-        ensures same { (q : ℕ) → bytes_at self.new q ≡ bytes_at self.old q }
-        ensures row { vec_len self.new.row ≡ vec_len self.old.row }
+    // Gives a key a free slot, beside one that it may have.
+    fn take(&mut self, class: usize, id: u32) -> Result<u16, Want>
+        requires class { class < CLASSES }
+        requires key { id < KEYS }
+        ensures row { self.new.row ≡ self.old.row }
+        ensures unused { IfOk result (λ slot. IsUnused (entry_in self.new.row.items) class slot) }
+        ensures own { IfOk result (λ slot. owner_in self.new.room.classes class slot ≡ Some id) }
+        ensures low { IfOk result (λ slot. slot < SLOTS) }
+        ensures there { IfOk result (λ slot. HasExtent self.new.room.extents.items (page_in class slot)) }
+        ensures out { IfErr result (IsOut (AreOwned (owner_in self.new.room.classes class)) (HasNoMore self.new.room.below self.new.room.shared)) }
+        ensures storage { self.new.storage ≡ self.old.storage }
         ensures last { self.new.last ≡ self.old.last }
         ensures faults { faults_of self.new ≡ faults_of self.old }
         ensures told { self.new.told ≡ self.old.told }
     {
-        self.storage.put(id as u64 * SLOT, bytes)
+        self.room.take(class, id as u16)
     }
 
-    // Notes that the bytes that were written last are under a key.
-    fn note(&mut self, id: u32, len: u16, seal: L)
+    // Puts bytes into a slot that no key uses.
+    fn put(&mut self, class: usize, slot: u16, bytes: &[u8]) -> Result<(), StorageFault>
+        requires class { class < CLASSES }
+        requires low { slot < SLOTS }
+        requires few { length bytes.now ≤ 64 * scale class }
+        requires unused { IsUnused (entry_in self.old.row.items) class slot }
+        requires there { HasExtent self.old.room.extents.items (page_in class slot) }
+        ensures called { F.Storage.puts self.old.storage (slot_at self.old.room.extents.items class slot) bytes.now result self.new.storage }
+        ensures put { F.Storage.honest self.old.storage ≡ true → OnOk result (HoldsAt (F.Storage.seen self.new.storage) (slot_at self.old.room.extents.items class slot) bytes.now) }
+        ensures honest { F.Storage.honest self.new.storage ≡ F.Storage.honest self.old.storage }
+        ensures row { self.new.row ≡ self.old.row }
+        ensures room { self.new.room ≡ self.old.room }
+        ensures last { self.new.last ≡ self.old.last }
+        ensures faults { faults_of self.new ≡ faults_of self.old }
+        ensures told { self.new.told ≡ self.old.told }
+    {
+        self.storage.put(self.room.at(class, slot), bytes)
+    }
+
+    // Notes that the bytes that were written last are under a key, in a slot of its own, and lets go of the slot that it had.
+    fn note(&mut self, id: u32, len: u16, slot: u16, seal: L)
         requires row { id < vec_len self.old.row }
+        requires key { id < KEYS }
         requires len { length self.old.last.items ≡ len }
         requires few { len ≤ SLOT }
+        requires low { slot < SLOTS }
         requires sealed { L.Seal.kept seal ≡ L.Seal.digest self.old.last.items }
-        requires there { F.Storage.honest self.old.storage ≡ true → HoldsAt (F.Storage.seen self.old.storage) (SLOT * id) self.old.last.items }
+        requires own { owner_in self.old.room.classes (class_in len) slot ≡ Some id }
+        requires unused { IsUnused (entry_in self.old.row.items) (class_in len) slot }
+        requires there { HasExtent self.old.room.extents.items (page_in (class_in len) slot) }
+        requires put { F.Storage.honest self.old.storage ≡ true → HoldsAt (F.Storage.seen self.old.storage) (slot_at self.old.room.extents.items (class_in len) slot) self.old.last.items }
         ensures set { bytes_at self.new id ≡ Some self.old.last.items }
+        ensures place { place_at self.new id ≡ slot_at self.old.room.extents.items (class_in len) slot }
         ensures others { KeepsOthers (bytes_at self.old) (bytes_at self.new) id }
+        ensures freed { IfSome (entry_in self.old.row.items id) (λ held. IsFree (owner_in self.new.room.classes (class_in (len_in held)) (slot_in held))) }
         ensures storage { self.new.storage ≡ self.old.storage }
         ensures faults { faults_of self.new ≡ faults_of self.old }
         ensures told { self.new.told ≡ self.old.told }
     {
-        self.row[id as usize] = Some(Held {
-            len,
-            seal,
-            was: Snapshot::of(&self.last),
-        });
+        let was = Snapshot::of(&self.last);
+        let code = Code::new(len, slot);
+        let held = Held { code, seal, was };
+        self.set(id, held);
+    }
+
+    // Lets go of a slot that no key uses.
+    fn release(&mut self, class: usize, slot: u16)
+        requires class { class < CLASSES }
+        requires unused { IsUnused (entry_in self.old.row.items) class slot }
+        ensures row { self.new.row ≡ self.old.row }
+        ensures freed { IsFree (owner_in self.new.room.classes class slot) }
+        ensures storage { self.new.storage ≡ self.old.storage }
+        ensures faults { faults_of self.new ≡ faults_of self.old }
+        ensures told { self.new.told ≡ self.old.told }
+    {
+        self.room.free(class, slot);
     }
 
     // Makes the row long enough for a key.
     fn reach(&mut self, id: u32) -> bool
         requires { id < KEYS }
         ensures long { IsTrue result → id < vec_len self.new.row }
-        ensures same { (k : ℕ) → bytes_at self.new k ≡ bytes_at self.old k }
+        ensures same { KeepsEntries self.old.row.items self.new.row.items }
+        ensures room { self.new.room ≡ self.old.room }
         ensures last { self.new.last ≡ self.old.last }
         ensures storage { self.new.storage ≡ self.old.storage }
         ensures faults { faults_of self.new ≡ faults_of self.old }
         ensures told { self.new.told ≡ self.old.told }
     {
-        lengthen(&mut self.row, id as usize)
+        lengthen(self.alloc, &mut self.row, id as usize)
     }
 
     // Keeps these bytes as those that are written.
     fn keep(&mut self, bytes: &[u8]) -> bool
         ensures kept { IsTrue result → self.new.last.items ≡ bytes.now }
         ensures same { self.new.row ≡ self.old.row }
+        ensures room { self.new.room ≡ self.old.room }
         ensures storage { self.new.storage ≡ self.old.storage }
         ensures faults { self.new.faults ≡ self.old.faults }
         ensures told { self.new.told ≡ self.old.told }
@@ -241,8 +337,9 @@ impl<F: Storage + Drop, L: Seal> SealedDevice<F, L> {
 impl<F: Storage + Drop, L: Seal> Device for SealedDevice<F, L> {
     ghost use Rattle.std.proofs.Common.{arith};
     ghost use Rattle.far_device.specs.Wrapping.{wrapped_below};
-    ghost use Rattle.far_file.specs.SealedCalls.{bytes_at, counted, faults_of, is_honest, SealedWrites, SealedReads, SealedLetsGo};
+    ghost use Rattle.far_file.specs.SealedCalls.{bytes_at, counted, faults_of, is_honest, place_at, puts_somewhere, SealedWrites, SealedReads, SealedLetsGo};
     ghost use Rattle.far_file.specs.SealedFollowing.{forget_leaves, read_leaves, write_leaves};
+    ghost use Rattle.far_file.specs.Out.{HasNoMore};
 
     ghost contents = { bytes_at };
 
@@ -270,7 +367,7 @@ impl<F: Storage + Drop, L: Seal> Device for SealedDevice<F, L> {
 
     ghost forget_follows = { forget_leaves };
 
-    /// Refused memory, or a key or bytes without a slot, all is as it was; after any other fault nothing is under the key. A write that succeeds makes one call
+    /// After any fault all is as it was: the bytes go to a free slot, and the key's own is let go of once they are there. A write that succeeds makes one call
     /// of the storage; one that is refused memory, or has no slot, makes none.
     fn write(&mut self, id: u32, bytes: &[u8]) -> Result<(), DeviceFault>
         ensures set { OnOk result (bytes_at self.new id ≡ Some bytes.now) }
@@ -278,13 +375,12 @@ impl<F: Storage + Drop, L: Seal> Device for SealedDevice<F, L> {
         ensures faults { faults_of self.new ≡ counted (is_fault result) (faults_of self.old) }
         ensures honest { F.Storage.honest self.new.storage ≡ F.Storage.honest self.old.storage }
         ensures as_honest { is_honest self.new ≡ is_honest self.old }
-        ensures left { OnErr result ((bytes_at self.new id ≡ None) ⊎ (bytes_at self.new id ≡ bytes_at self.old id)) }
-        ensures called { IfOk result (λ done. F.Storage.puts self.old.storage (id * SLOT) bytes.now (Ok done) self.new.storage) }
+        ensures left { OnErr result (bytes_at self.new id ≡ bytes_at self.old id) }
+        ensures freed { OnOk result (IfSome (entry_in self.old.row.items id) (λ held. IsFree (owner_in self.new.room.classes (class_in (len_in held)) (slot_in held)))) }
+        ensures called { IfOk result (λ done. F.Storage.puts self.old.storage (place_at self.new id) bytes.now (Ok done) self.new.storage) }
         ensures unasked { result ≡ Err Memory → self.new.storage ≡ self.old.storage }
         ensures no_slot { (KEYS ≤ id) ⊎ (SLOT < length bytes.now) → (result ≡ Err Failed) × (self.new.told ≡ Some record { key = id; why = NoSlot }) × (bytes_at self.new ≡ bytes_at self.old) × (self.new.storage ≡ self.old.storage) }
-        ensures gone { id < KEYS → length bytes.now ≤ SLOT → is_fault result ≡ true → bytes_at self.new id ≡ None }
-        ensures memory { result ≡ Err Memory → (q : ℕ) → bytes_at self.new q ≡ bytes_at self.old q }
-        ensures told { id < KEYS → length bytes.now ≤ SLOT → is_fault result ≡ true → StoppedWrite (λ answer. F.Storage.puts self.old.storage (id * SLOT) bytes.now answer self.new.storage) id self.new.told }
+        ensures told { id < KEYS → length bytes.now ≤ SLOT → is_fault result ≡ true → StoppedWrite ((self.new.storage ≡ self.old.storage) × (AreOwned (owner_in self.new.room.classes (class_in (length bytes.now))) ⊎ HasNoMore self.new.room.below self.new.room.shared)) (puts_somewhere F.Storage.puts self.old.storage bytes.now self.new.storage) id self.new.told }
         ensures kept_told { is_fault result ≡ false → self.new.told ≡ self.old.told }
     {
         if id >= KEYS || bytes.len() as u64 > SLOT {
@@ -296,24 +392,33 @@ impl<F: Storage + Drop, L: Seal> Device for SealedDevice<F, L> {
         let Some(seal) = L::seal(self.alloc, bytes) else {
             return Err(DeviceFault::Memory);
         };
-        self.empty(id);
-        match self.put(id, bytes) {
+        let class = class_of(bytes.len());
+        let slot = match self.take(class, id) {
+            Ok(slot) => slot,
+            Err(Want::Memory) => return Err(DeviceFault::Memory),
+            Err(Want::Slot) => return Err(self.fail(id, FileFault::NoSlot)),
+            Err(Want::Extent) => return Err(self.fail(id, FileFault::NoSlot)),
+        };
+        match self.put(class, slot, bytes) {
             Ok(()) => {
-                self.note(id, bytes.len() as u16, seal);
+                self.note(id, bytes.len() as u16, slot, seal);
                 Ok(())
             }
-            Err(why) => Err(self.fail(id, FileFault::Storage(why))),
+            Err(why) => {
+                self.release(class, slot);
+                Err(self.fail(id, FileFault::Storage(why)))
+            }
         }
     }
 
     /// A read that succeeds gives as many bytes as were written, those that a call of the storage gave. Refused [`DeviceFault::Memory`] for want of room for them, [`DeviceFault::Device`] if nothing is under the
     /// key, the storage failed, or the bytes don't fit their seal; the contents stay.
     fn read(&mut self, id: u32) -> Result<Vec<u8>, DeviceFault>
-        ensures called { IfSome (bytes_at self.old id) (λ stored. IfOk result (λ bytes. F.Storage.gets self.old.storage (id * SLOT) (length stored) (Ok bytes.items))) }
+        ensures called { IfSome (bytes_at self.old id) (λ stored. IfOk result (λ bytes. F.Storage.gets self.old.storage (place_at self.old id) (length stored) (Ok bytes.items))) }
         ensures len { IfSome (bytes_at self.old id) (λ stored. IfOk result (λ bytes. vec_len bytes ≡ length stored)) }
         ensures given { is_honest self.old ≡ true → IfOk result (λ bytes. IfSome (bytes_at self.old id) (λ stored. bytes.items ≡ stored)) }
         ensures nothing { IfNone (bytes_at self.old id) ((result ≡ Err Failed) × (self.new.told ≡ Some record { key = id; why = Nothing })) }
-        ensures told { IfSome (bytes_at self.old id) (λ stored. is_fault result ≡ true → StoppedRead (F.Storage.honest self.old.storage) (F.Storage.gets self.old.storage (id * SLOT) (length stored)) id self.new.told) }
+        ensures told { IfSome (bytes_at self.old id) (λ stored. is_fault result ≡ true → StoppedRead (F.Storage.honest self.old.storage) (F.Storage.gets self.old.storage (place_at self.old id) (length stored)) id self.new.told) }
         ensures kept_told { is_fault result ≡ false → self.new.told ≡ self.old.told }
         ensures kept { bytes_at self.new ≡ bytes_at self.old }
         ensures faults { faults_of self.new ≡ counted (is_fault result) (faults_of self.old) }
@@ -329,11 +434,11 @@ impl<F: Storage + Drop, L: Seal> Device for SealedDevice<F, L> {
     /// As `read`. Takes no memory if the buffer has room for the bytes.
     #[tactic(auto, using(crate::proofs::Rows::either))]
     fn read_into(&mut self, id: u32, buffer: &mut Vec<u8>) -> Result<(), DeviceFault>
-        ensures called { IfSome (bytes_at self.old id) (λ stored. OnOk result (F.Storage.gets self.old.storage (id * SLOT) (length stored) (Ok buffer.new.items))) }
+        ensures called { IfSome (bytes_at self.old id) (λ stored. OnOk result (F.Storage.gets self.old.storage (place_at self.old id) (length stored) (Ok buffer.new.items))) }
         ensures len { IfSome (bytes_at self.old id) (λ stored. OnOk result (vec_len buffer.new ≡ length stored)) }
         ensures given { is_honest self.old ≡ true → OnOk result (IfSome (bytes_at self.old id) (λ stored. buffer.new.items ≡ stored)) }
         ensures nothing { IfNone (bytes_at self.old id) ((result ≡ Err Failed) × (self.new.told ≡ Some record { key = id; why = Nothing })) }
-        ensures told { IfSome (bytes_at self.old id) (λ stored. is_fault result ≡ true → StoppedRead (F.Storage.honest self.old.storage) (F.Storage.gets self.old.storage (id * SLOT) (length stored)) id self.new.told) }
+        ensures told { IfSome (bytes_at self.old id) (λ stored. is_fault result ≡ true → StoppedRead (F.Storage.honest self.old.storage) (F.Storage.gets self.old.storage (place_at self.old id) (length stored)) id self.new.told) }
         ensures kept_told { is_fault result ≡ false → self.new.told ≡ self.old.told }
         ensures kept { bytes_at self.new ≡ bytes_at self.old }
         ensures room { vec_capacity buffer.old ≤ vec_capacity buffer.new }
@@ -356,6 +461,7 @@ impl<F: Storage + Drop, L: Seal> Device for SealedDevice<F, L> {
     fn forget(&mut self, id: u32)
         ensures gone { bytes_at self.new id ≡ None }
         ensures others { KeepsOthers (bytes_at self.old) (bytes_at self.new) id }
+        ensures freed { IfSome (entry_in self.old.row.items id) (λ held. IsFree (owner_in self.new.room.classes (class_in (len_in held)) (slot_in held))) }
         ensures faults { faults_of self.new ≡ faults_of self.old }
         ensures storage { self.new.storage ≡ self.old.storage }
         ensures told { self.new.told ≡ self.old.told }
@@ -366,20 +472,4 @@ impl<F: Storage + Drop, L: Seal> Device for SealedDevice<F, L> {
     fn faults(&self) -> u64 {
         self.faults
     }
-}
-
-/// Makes the row longer than a number. After `false`, where memory was refused, it may not be.
-#[inline(never)]
-#[tactic(auto, using(crate::proofs::Rows::longer))]
-fn lengthen<L: Seal>(row: &mut Vec<Option<Held<L>>>, id: usize) -> bool
-    requires { id < KEYS }
-    ensures long { IsTrue result → id < vec_len row.new }
-    ensures same { (k : ℕ) → bytes_in row.new.items k ≡ bytes_in row.old.items k }
-{
-    for _ in row.len()..id + 1 {
-        let Ok(()) = row.push(None) else {
-            return false;
-        };
-    }
-    true
 }

@@ -4,7 +4,8 @@ use super::any::{over_memory, over_storage, there_and_back, with_copies};
 use super::own::{Breaking, Crooked};
 use far_device::{Device, DeviceFault};
 use far_file::{
-    Digest, FileDevice, FileFault, MemStorage, Seal, SealedDevice, Storage, StorageFault, WholeCopy,
+    Digest, FileDevice, FileFault, FileStatistics, MemStorage, Seal, SealedDevice, Storage,
+    StorageFault, WholeCopy,
 };
 use std::alloc::Global;
 use std::test::*;
@@ -179,6 +180,109 @@ fn storage_fails_in_each_call(rt: HostRuntime) {
     for of in &FALLS {
         assert!(rt; falls(rt.alloc(), of));
     }
+}
+
+// Whether a write that the storage failed leaves what was under the key, also where it would have moved it to a longer or a shorter slot, and so does the next one.
+fn stays(alloc: Global, first: &[u8], second: &[u8]) -> bool {
+    let storage = Breaking::new(MemStorage::new(alloc), 2, StorageFault::Full);
+    let mut device = FileDevice::<Breaking<MemStorage>>::new(alloc, storage);
+    takes(&mut device, 3, first)
+        && !takes(&mut device, 3, second)
+        && blames(&device, FileFault::Storage(StorageFault::Full))
+        && gives(&mut device, alloc, 3, first)
+        && takes(&mut device, 3, second)
+        && gives(&mut device, alloc, 3, second)
+}
+
+#[test]
+fn what_is_there_stays_where_a_write_fails(rt: HostRuntime) {
+    assert!(rt; stays(rt.alloc(), FIRST, FIRST));
+    assert!(rt; stays(rt.alloc(), FIRST, LONGEST));
+    assert!(rt; stays(rt.alloc(), LONGEST, FIRST));
+}
+
+// Bytes for a key, others and of another length from turn to turn.
+fn bytes_of(all: &[u8; 8192], key: u32, turn: u32) -> &[u8] {
+    let key = key as usize % 64;
+    let turn = turn as usize % 64;
+    let from = key * 29;
+    &all[from..from + (key * 61 + turn * 977) % 4097]
+}
+
+// Whether so many keys take bytes, and then give them.
+fn keep_all<D: Device>(
+    device: &mut D,
+    alloc: Global,
+    keys: u32,
+    all: &[u8; 8192],
+    turn: u32,
+) -> bool {
+    for key in 0..keys {
+        if !takes(device, key, bytes_of(all, key, turn)) {
+            return false;
+        }
+    }
+    for key in 0..keys {
+        if !gives(device, alloc, key, bytes_of(all, key, turn)) {
+            return false;
+        }
+    }
+    true
+}
+
+// Whether so many keys keep their bytes while each is written anew in other lengths, turn by turn.
+pub(crate) fn moves<D: Device>(device: &mut D, alloc: Global, keys: u32, turns: u32) -> bool {
+    let mut all = [0u8; 8192];
+    let mut state: u8 = 1;
+    for byte in &mut all {
+        state = state.wrapping_mul(5).wrapping_add(7);
+        *byte = state;
+    }
+    for turn in 0..turns {
+        if !keep_all(device, alloc, keys, &all, turn) {
+            return false;
+        }
+    }
+    true
+}
+
+#[test]
+fn keys_move_to_slots_of_other_sizes(rt: HostRuntime) {
+    let alloc = rt.alloc();
+    let mut device = FileDevice::<MemStorage>::new(alloc, MemStorage::new(alloc));
+    assert!(rt; moves(&mut device, alloc, 40, 9));
+}
+
+// What a device has after writes of these lengths, one of them again under the same key.
+fn counts(alloc: Global) -> FileStatistics {
+    let mut device = FileDevice::<MemStorage>::new(alloc, MemStorage::new(alloc));
+    for (key, len) in [
+        (0, 72),
+        (1, 200),
+        (2, 1000),
+        (3, 4088),
+        (4, 64),
+        (5, 0),
+        (5, 65),
+    ] {
+        let _ = device.write(key, &LONGEST[..len]);
+    }
+    device.forget(4);
+    device.statistics()
+}
+
+// Lengths, slots of each size, and the extents that these lie in: one of 64 bytes is left for the next write.
+#[test]
+fn a_device_counts_what_it_has(rt: HostRuntime) {
+    let has = counts(rt.alloc());
+    let slots = [0, 2, 1, 0, 1, 0, 1];
+    let extents = [1, 1, 1, 0, 1, 0, 1];
+    assert!(rt; has.keys == 5 && has.bytes == 72 + 200 + 1000 + 4088 + 65);
+    for class in 0..7usize {
+        assert!(rt; has.classes[class].slots == slots[class]);
+        assert!(rt; has.classes[class].extents == extents[class]);
+    }
+    assert!(rt; has.end == 6 * 16384);
 }
 
 // The first byte that a read of these answers over storage that inverts one, and why it answers none.

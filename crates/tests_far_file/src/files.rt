@@ -1,12 +1,13 @@
 //! Devices over a file of the system.
 
-use super::devices::{gives, keeps};
+use super::devices::{gives, keeps, moves};
 use far_device::Device;
 use far_file::{
-    Digest, FileDevice, FileFault, NewFile, NoSeal, Seal, SealedDevice, Storage, StorageFault,
+    Digest, FileDevice, FileFault, FilePart, NewFile, NoSeal, Seal, SealedDevice, SharedFile,
+    Storage, StorageFault,
 };
 use std::alloc::Global;
-use std::fs::File;
+use std::fs::{File, OpenOptions};
 use std::io;
 use std::io::ErrorKind;
 use std::os::unix::fs::PermissionsExt;
@@ -37,7 +38,7 @@ fn fails_for(device: &mut FileDevice<File>, why: StorageFault) -> bool {
 // Whether a read fails once the file is cut, and the device works again after a write.
 fn is_cut(device: &mut FileDevice<File>, alloc: Global, file: &File) -> bool {
     device.write(1, &[1, 2, 3]).is_ok()
-        && file.set_len(1026).is_ok()
+        && file.set_len(16386).is_ok()
         && device.read(1).is_err()
         && device.why() == Some(FileFault::Storage(StorageFault::Short))
         && device.write(1, &[4]).is_ok()
@@ -89,9 +90,17 @@ fn a_file_keeps_bytes_above_4_gib(rt: HostRuntime) {
     let _ = std::fs::remove_file(&rt, "far_up");
 }
 
+// A device of the system that takes no byte: a disk that is full.
+fn full(rt: &HostRuntime) -> io::Result<File> {
+    let mut options = OpenOptions::new();
+    options.read(true);
+    options.write(true);
+    options.open(rt, "/dev/full")
+}
+
 #[test]
 fn a_disk_is_full(rt: HostRuntime) {
-    let file = NewFile::new().replacing().open(&rt, "/dev/full");
+    let file = full(&rt);
     assert!(rt; file_fails(rt.alloc(), file, StorageFault::Full));
 }
 
@@ -133,4 +142,110 @@ fn a_file_is_new_or_its_folder_is_missing(rt: HostRuntime) -> Result<(), Fail> {
         Err(why) => assert!(rt; why.kind() == ErrorKind::NotFound),
     }
     Ok(())
+}
+
+// Whether each of two devices gives these bytes back under many keys, beside those of the other.
+fn two_keep(
+    alloc: Global,
+    one: &mut SealedDevice<FilePart, Digest>,
+    other: &mut SealedDevice<FilePart, Digest>,
+) -> bool {
+    moves(one, alloc, 20, 2)
+        && moves(other, alloc, 20, 3)
+        && one.write(0, &[5; 70]).is_ok()
+        && other.write(0, &[6; 70]).is_ok()
+        && gives(one, alloc, 0, &[5; 70])
+        && gives(other, alloc, 0, &[6; 70])
+}
+
+// Whoever calls this may give it to another thread.
+fn can_be_sent<T: Send>(_it: &T) -> bool {
+    true
+}
+
+// The same of devices over one file, which may go to other threads.
+fn share(alloc: Global, file: File) -> bool {
+    let Ok(shared) = SharedFile::new(alloc, file) else {
+        return false;
+    };
+    match (
+        shared.device::<Digest>(alloc),
+        shared.device::<Digest>(alloc),
+    ) {
+        (Ok(mut one), Ok(mut other)) => can_be_sent(&one) && two_keep(alloc, &mut one, &mut other),
+        _ => false,
+    }
+}
+
+#[test]
+fn two_devices_use_one_file(rt: HostRuntime) {
+    match NewFile::new().replacing().open(&rt, "shared") {
+        Ok(file) => assert!(rt; share(rt.alloc(), file)),
+        Err(_) => assert!(rt; false),
+    }
+}
+
+// Whether a device takes these bytes again and again, under 100 keys.
+fn takes_again(device: &mut FileDevice<File>, bytes: &[u8]) -> bool {
+    for key in 0..1000u32 {
+        if device.write(key % 100, bytes).is_err() {
+            return false;
+        }
+    }
+    true
+}
+
+// Short objects take little room, and slots are used again: 101 slots of 64 bytes are in the first extent, behind room for one.
+#[test]
+fn short_objects_take_little_room(rt: HostRuntime) -> Result<(), Fail> {
+    let file = NewFile::new().replacing().open(&rt, "short")?;
+    let mut device = FileDevice::<File>::new(rt.alloc(), file);
+    assert!(rt; takes_again(&mut device, &[9; 64]));
+    assert!(rt; File::open(&rt, "short")?.metadata()?.len() <= 2 * 16384);
+    Ok(())
+}
+
+// Whether of two devices over a full disk each is refused, and each works where there is room.
+fn both_are_full(alloc: Global, file: File) -> bool {
+    let Ok(shared) = SharedFile::new(alloc, file) else {
+        return false;
+    };
+    let full = Some(FileFault::Storage(StorageFault::Full));
+    match (
+        shared.device::<NoSeal>(alloc),
+        shared.device::<Digest>(alloc),
+    ) {
+        (Ok(mut one), Ok(mut other)) => {
+            one.write(0, &[1]).is_err()
+                && other.write(0, &[2]).is_err()
+                && one.why() == full
+                && other.why() == full
+                && one.read(0).is_err()
+                && one.why() == Some(FileFault::Nothing)
+        }
+        _ => false,
+    }
+}
+
+#[test]
+fn devices_over_a_full_disk_are_each_refused(rt: HostRuntime) -> Result<(), Fail> {
+    assert!(rt; both_are_full(rt.alloc(), full(&rt)?));
+    Ok(())
+}
+
+// Why no file is opened.
+fn refused(rt: &HostRuntime, how: NewFile, name: &str) -> Option<ErrorKind> {
+    match how.open(rt, name) {
+        Ok(_) => None,
+        Err(why) => Some(why.kind()),
+    }
+}
+
+// A pipe is refused as a device is.
+#[test]
+fn what_is_no_file_is_refused(rt: HostRuntime) {
+    let any = NewFile::new().replacing();
+    assert!(rt; refused(&rt, any, "/dev/null") == Some(ErrorKind::InvalidInput));
+    assert!(rt; refused(&rt, any, "/") == Some(ErrorKind::IsADirectory));
+    assert!(rt; refused(&rt, NewFile::new(), "/") == Some(ErrorKind::AlreadyExists));
 }

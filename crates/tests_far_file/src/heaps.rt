@@ -13,7 +13,7 @@ use far_heap::{Blank, Heap, HeapName, Mutator};
 use far_policy::Oldest;
 use far_word::Refused;
 use std::alloc::Global;
-use std::fs::File;
+use std::fs::{File, OpenOptions};
 use std::marker::Brand;
 use std::sync::Wait;
 
@@ -158,7 +158,10 @@ fn asked_of_file<R: Wait>(
 #[test]
 fn a_full_disk_is_told(rt: HostRuntime) {
     let full = refused(FileFault::Storage(StorageFault::Full));
-    match NewFile::new().replacing().open(&rt, "/dev/full") {
+    let mut options = OpenOptions::new();
+    options.read(true);
+    options.write(true);
+    match options.open(&rt, "/dev/full") {
         Ok(file) => {
             assert!(rt;
                 asked_of_file(&rt, rt.alloc(), file, None) == Some((full, (false, full.1)))
