@@ -1,6 +1,6 @@
 // Preloaded into a program, makes its allocation number FAIL_ALLOC fail (counted from 1; 0 or no such variable: none)
-// and writes how many were asked for to the file that COUNT_ALLOC names. Where FAIL_IN is set it does so in the program of
-// that name alone, and not in those that start it.
+// and, where FAIL_EVERY is set, each so manieth after it, and writes how many were asked for to the file that COUNT_ALLOC
+// names. Where FAIL_IN is set it does so in the program of that name alone, and not in those that start it.
 //
 //   cc -O2 -shared -fPIC -o fail_malloc.so fail_malloc.c -ldl
 #define _GNU_SOURCE
@@ -13,6 +13,7 @@
 
 static long count;
 static long nth = -1;
+static long every;
 
 static int is_meant(void) {
     const char *name = getenv("FAIL_IN");
@@ -24,8 +25,11 @@ static int refused(void) {
     if (nth < 0) {
         const char *value = getenv("FAIL_ALLOC");
         nth = value ? atol(value) : 0;
+        value = getenv("FAIL_EVERY");
+        every = value ? atol(value) : 0;
     }
-    if (__atomic_add_fetch(&count, 1, __ATOMIC_SEQ_CST) != nth) return 0;
+    long now = __atomic_add_fetch(&count, 1, __ATOMIC_SEQ_CST);
+    if (nth == 0 || now < nth || (now > nth && (every <= 0 || (now - nth) % every != 0))) return 0;
     errno = ENOMEM; // as the C library does, which asks for it where it makes a thread
     return 1;
 }

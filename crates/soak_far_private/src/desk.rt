@@ -11,6 +11,8 @@ pub struct Allowed {
     pub fails: bool,
     /// Its device lies.
     pub lies: bool,
+    /// Growth is refused at times.
+    pub lacks: bool,
     /// How many logs it has. With two no round can be made.
     pub logs: u64,
 }
@@ -78,7 +80,7 @@ impl Desk {
     fn may_refuse(&self, why: Refused) -> bool {
         match why {
             Refused::Memory => true,
-            Refused::NoRoom => self.allowed.logs < 3 || self.allowed.fails,
+            Refused::NoRoom => self.allowed.logs < 3 || self.allowed.fails || self.allowed.lacks,
             Refused::Device => self.allowed.fails,
             Refused::Damaged => self.allowed.lies,
             _ => false,

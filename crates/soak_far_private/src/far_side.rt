@@ -15,6 +15,8 @@ pub enum FarSide {
     Fails,
     /// Memory of which reads lie.
     Lies,
+    /// Memory, where growth is refused at times.
+    Scarce,
 }
 
 impl FarSide {
@@ -25,6 +27,7 @@ impl FarSide {
             "file" => Some(FarSide::Disk),
             "fails" => Some(FarSide::Fails),
             "lies" => Some(FarSide::Lies),
+            "scarce" => Some(FarSide::Scarce),
             _ => None,
         }
     }

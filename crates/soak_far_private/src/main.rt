@@ -48,6 +48,7 @@ fn soak<D: Device + Drop>(
     let allowed = Allowed {
         fails: asked.far_side == FarSide::Fails,
         lies: asked.far_side == FarSide::Lies,
+        lacks: asked.far_side == FarSide::Scarce,
         logs: asked.logs,
     };
     let mut heap = PrivateHeap::new(alloc, asked.logs, honest, device)?;
@@ -75,7 +76,7 @@ fn soak_over<R: Files<File = File> + Eprint>(
     asked: Asked,
 ) -> Option<Result<Desk, Refused>> {
     let found = match asked.far_side {
-        FarSide::Memory => soak(alloc, MemDevice::new(alloc), true, asked),
+        FarSide::Memory | FarSide::Scarce => soak(alloc, MemDevice::new(alloc), true, asked),
         FarSide::Disk => soak(alloc, on_disk(rt, alloc)?, false, asked),
         FarSide::Fails => soak_flawed(alloc, Flaw::Fails, asked),
         FarSide::Lies => soak_flawed(alloc, Flaw::Lies, asked),
@@ -136,7 +137,7 @@ fn main(rt: HostRuntime) -> ExitCode {
     let Some(asked) = words else {
         return failed(
             &rt,
-            "usage: soak_far_private CALLS SEED [memory|file|fails|lies [LOGS]]",
+            "usage: soak_far_private CALLS SEED [memory|file|fails|lies|scarce [LOGS]]",
         );
     };
     match soak_over(&rt, rt.alloc(), asked) {

@@ -2,6 +2,7 @@
 
 use far_word::POINTERS;
 use std::alloc::{AllocError, Global};
+use std::collections::BTreeMap;
 
 /// The room for an object's bytes.
 pub const ROOM: usize = 4096;
@@ -22,27 +23,45 @@ const NONE: Object = Object {
     at: 0,
 };
 
-/// The objects of all pointers.
+/// A pointer's object with its bytes.
+#[derive(Drop)]
+struct Held {
+    object: Object,
+    // ROOM bytes, of which the object's are the first.
+    bytes: Vec<u8>,
+}
+
+/// The objects of all pointers. Once it is made it takes no memory.
 #[derive(Drop)]
 pub struct Model {
-    objects: Vec<Object>,
-    // ROOM bytes for each pointer.
-    bytes: Vec<u8>,
+    objects: BTreeMap<u16, Held>,
     // The pointers that have an object, in any order.
     used: Vec<u16>,
+}
+
+// A pointer without an object.
+fn free(alloc: Global) -> Result<Held, AllocError> {
+    let mut bytes = Vec::new(alloc);
+    bytes.resize(ROOM, 0)?;
+    Ok(Held {
+        object: NONE,
+        bytes,
+    })
 }
 
 impl Model {
     /// One without an object.
     pub fn new(alloc: Global) -> Result<Model, AllocError> {
         let mut model = Model {
-            objects: Vec::new(alloc),
-            bytes: Vec::new(alloc),
+            objects: BTreeMap::new(alloc),
             used: Vec::new(alloc),
         };
-        model.objects.resize(POINTERS as usize, NONE)?;
-        model.bytes.resize(POINTERS as usize * ROOM, 0)?;
         model.used.try_reserve(POINTERS as usize)?;
+        for pointer in 0..POINTERS {
+            if model.objects.insert(pointer, free(alloc)?).is_err() {
+                return Err(AllocError);
+            }
+        }
         Ok(model)
     }
 
@@ -61,68 +80,77 @@ impl Model {
     /// The object of a pointer; `None` where it is free.
     #[inline(always)]
     pub fn object(&self, pointer: u16) -> Option<Object> {
-        let object = self.objects.get(pointer as usize).copied()?;
+        let object = self.objects.get(&pointer)?.object;
         if object.len == 0 { None } else { Some(object) }
     }
 
     /// A range of its bytes.
     #[inline(always)]
     pub fn bytes(&self, pointer: u16, from: usize, count: usize) -> Option<&[u8]> {
-        let start = (pointer as usize).saturating_mul(ROOM).saturating_add(from);
-        self.bytes.get(start..start.saturating_add(count))
+        let held = self.objects.get(&pointer)?;
+        held.bytes.get(from..from.saturating_add(count))
+    }
+
+    // The same, to be changed.
+    #[inline(always)]
+    fn bytes_mut(&mut self, pointer: u16, from: usize, count: usize) -> Option<&mut [u8]> {
+        let held = self.objects.get_mut(&pointer)?;
+        held.bytes
+            .as_mut_slice()
+            .get_mut(from..from.saturating_add(count))
     }
 
     /// Has these bytes there.
     #[inline(always)]
     pub fn write(&mut self, pointer: u16, from: usize, bytes: &[u8]) {
-        let start = (pointer as usize).saturating_mul(ROOM).saturating_add(from);
-        if let Some(place) = self
-            .bytes
-            .as_mut_slice()
-            .get_mut(start..start.saturating_add(bytes.len()))
-        {
-            place.copy_from_slice(bytes);
+        if let Some(place) = self.bytes_mut(pointer, from, bytes.len()) {
+            if place.len() == bytes.len() {
+                place.copy_from_slice(bytes);
+            }
         }
     }
 
     /// Has a number added to each of these bytes.
     pub fn add(&mut self, pointer: u16, from: usize, count: usize, number: u8) {
-        let start = (pointer as usize).saturating_mul(ROOM).saturating_add(from);
-        let range = start..start.saturating_add(count);
-        if let Some(place) = self.bytes.as_mut_slice().get_mut(range) {
+        if let Some(place) = self.bytes_mut(pointer, from, count) {
             for byte in place {
                 *byte = byte.wrapping_add(number);
             }
         }
     }
 
+    // Has this object there: which one there was.
+    fn set(&mut self, pointer: u16, object: Object) -> Option<Object> {
+        let held = self.objects.get_mut(&pointer)?;
+        let before = held.object;
+        held.object = object;
+        Some(before)
+    }
+
     /// Has an object at a pointer that has none: whether that is so.
     pub fn make(&mut self, pointer: u16, structure: u8, bytes: &[u8]) -> bool {
-        let at = self.used.len();
-        let Some(place) = self.objects.get_mut(pointer as usize) else {
-            return false;
-        };
-        if place.len != 0 {
-            return false;
-        }
-        *place = Object {
+        let object = Object {
             len: bytes.len(),
             structure,
-            at,
+            at: self.used.len(),
         };
-        self.write(pointer, 0, bytes);
-        self.used.push(pointer).is_ok()
+        match self.set(pointer, object) {
+            Some(before) if before.len == 0 => {
+                self.write(pointer, 0, bytes);
+                self.used.push(pointer).is_ok()
+            }
+            _ => false,
+        }
     }
 
     /// Has none there.
     pub fn drop_object(&mut self, pointer: u16) {
-        let Some(object) = self.object(pointer) else {
+        let Some(object) = self.set(pointer, NONE) else {
             return;
         };
-        if let Some(place) = self.objects.get_mut(pointer as usize) {
-            *place = NONE;
+        if object.len != 0 {
+            self.move_last(object.at);
         }
-        self.move_last(object.at);
     }
 
     // Has the last of the used stand at a place.
@@ -132,8 +160,8 @@ impl Model {
         };
         if let Some(place) = self.used.get_mut(at) {
             *place = last;
-            if let Some(moved) = self.objects.get_mut(last as usize) {
-                moved.at = at;
+            if let Some(held) = self.objects.get_mut(&last) {
+                held.object.at = at;
             }
         }
     }

@@ -10,20 +10,26 @@ ghost use Rattle.far_device.specs.Wrapping.{wrapped_below};
 use far_device::{Device, DeviceFault, MemDevice, hand_over};
 use std::alloc::Global;
 
-/// What is wrong with a device.
-#[derive(Clone, Copy)]
+/// What is wrong with a device: always, or in one of its calls, a write or a read, counted from 1.
+#[derive(Clone, Copy, PartialEq, Eq)]
 pub(super) enum Flaw {
     Nothing,
-    /// It takes no object: each write fails so.
-    Refuses(DeviceFault),
+    /// It takes no object.
+    Refuses,
+    /// It has no memory for any.
+    Starves,
     /// It takes no object of so many bytes.
-    Dislikes(usize),
-    /// Its k-th call, a write or a read, fails so, counted from 1.
-    FailsAt(u64, DeviceFault),
-    /// In its k-th call, if that is a read, it gives a byte less, a byte more, or each byte inverted.
-    ShortAt(u64),
-    LongAt(u64),
-    InvertsAt(u64),
+    Dislikes,
+    /// The call fails.
+    Fails,
+    /// There is no memory for it.
+    Lacks,
+    /// If it is a read it gives a byte less.
+    Shortens,
+    /// A byte more.
+    Lengthens,
+    /// Each byte inverted.
+    Inverts,
 }
 
 /// A device in memory with a flaw.
@@ -31,6 +37,7 @@ pub(super) enum Flaw {
 pub(super) struct Flawed {
     inner: MemDevice,
     flaw: Flaw,
+    at: u64,
     calls: u64,
     faults: u64,
 }
@@ -54,45 +61,12 @@ fn invert(bytes: &mut [u8]) {
     }
 }
 
-impl Flaw {
-    // How it refuses the write of so many bytes in the k-th call.
-    fn of_write(self, call: u64, count: usize) -> Option<DeviceFault> {
-        match self {
-            Flaw::Refuses(fault) => Some(fault),
-            Flaw::Dislikes(len) if len == count => Some(DeviceFault::Device),
-            Flaw::FailsAt(k, fault) if k == call => Some(fault),
-            _ => None,
-        }
-    }
-
-    // How it refuses a read in the k-th call.
-    fn of_read(self, call: u64) -> Option<DeviceFault> {
-        match self {
-            Flaw::FailsAt(k, fault) if k == call => Some(fault),
-            _ => None,
-        }
-    }
-
-    // What it makes of bytes that are read in the k-th call.
-    fn falsify(self, call: u64, bytes: &mut Vec<u8>) {
-        match self {
-            Flaw::ShortAt(k) if k == call => {
-                let _ = bytes.pop();
-            }
-            Flaw::LongAt(k) if k == call => {
-                let _ = bytes.push(7);
-            }
-            Flaw::InvertsAt(k) if k == call => invert(bytes),
-            _ => {}
-        }
-    }
-}
-
 impl Flawed {
-    pub(super) fn new(alloc: Global, flaw: Flaw) -> Flawed {
+    pub(super) fn new(alloc: Global, flaw: Flaw, at: u64) -> Flawed {
         Flawed {
             inner: MemDevice::new(alloc),
             flaw,
+            at,
             calls: 0,
             faults: 0,
         }
@@ -104,6 +78,34 @@ impl Flawed {
         ensures faults { self.new.faults ≡ self.old.faults }
     {
         self.calls = self.calls.saturating_add(1);
+    }
+
+    // Whether this flaw shows in the last call.
+    fn shows(&self, flaw: Flaw) -> bool {
+        self.flaw == flaw && self.calls == self.at
+    }
+
+    // Whether a write of so many bytes fails.
+    fn fails_write(&self, count: usize) -> bool {
+        self.flaw == Flaw::Refuses
+            || self.shows(Flaw::Fails)
+            || self.flaw == Flaw::Dislikes && self.at == count as u64
+    }
+
+    // Whether there is no memory for a write.
+    fn lacks_write(&self) -> bool {
+        self.flaw == Flaw::Starves || self.shows(Flaw::Lacks)
+    }
+
+    // Falsifies bytes that were read.
+    fn falsify(&self, bytes: &mut Vec<u8>) {
+        if self.shows(Flaw::Shortens) {
+            let _ = bytes.pop();
+        } else if self.shows(Flaw::Lengthens) {
+            let _ = bytes.push(7);
+        } else if self.shows(Flaw::Inverts) {
+            invert(bytes);
+        }
     }
 }
 
@@ -136,30 +138,28 @@ impl Device for Flawed {
 
     fn write(&mut self, id: u32, bytes: &[u8]) -> Result<(), DeviceFault> {
         self.count();
-        match self.flaw.of_write(self.calls, bytes.len()) {
-            Some(DeviceFault::Device) => {
-                self.faults = self.faults.wrapping_add(1);
-                Err(DeviceFault::Device)
-            }
-            Some(DeviceFault::Memory) => Err(DeviceFault::Memory),
-            None => self.inner.write(id, bytes),
+        if self.fails_write(bytes.len()) {
+            self.faults = self.faults.wrapping_add(1);
+            return Err(DeviceFault::Device);
         }
+        if self.lacks_write() {
+            return Err(DeviceFault::Memory);
+        }
+        self.inner.write(id, bytes)
     }
 
     fn read(&mut self, id: u32) -> Result<Vec<u8>, DeviceFault> {
         self.count();
-        match self.flaw.of_read(self.calls) {
-            Some(DeviceFault::Device) => {
-                self.faults = self.faults.wrapping_add(1);
-                Err(DeviceFault::Device)
-            }
-            Some(DeviceFault::Memory) => Err(DeviceFault::Memory),
-            None => {
-                let mut bytes = read_inner(&mut self.inner, id)?;
-                self.flaw.falsify(self.calls, &mut bytes);
-                Ok(bytes)
-            }
+        if self.shows(Flaw::Fails) {
+            self.faults = self.faults.wrapping_add(1);
+            return Err(DeviceFault::Device);
         }
+        if self.shows(Flaw::Lacks) {
+            return Err(DeviceFault::Memory);
+        }
+        let mut bytes = read_inner(&mut self.inner, id)?;
+        self.falsify(&mut bytes);
+        Ok(bytes)
     }
 
     fn read_into(&mut self, id: u32, buffer: &mut Vec<u8>) -> Result<(), DeviceFault> {

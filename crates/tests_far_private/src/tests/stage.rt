@@ -1,273 +1,312 @@
 //! A heap on which a test is played, act by act.
 
-use crate::tests::acts::{Act, Play, Told};
-use crate::tests::devices::{Flaw, Flawed};
-use far_policy::Oldest;
+use crate::tests::acts::{Act, Play, Range, byte_of, row, whole};
+use crate::tests::calls::{
+    Part, alloc, alloc_with, ask, drop_object, heap_over, look, round, tell,
+};
+use crate::tests::devices::Flawed;
+use crate::tests::rows::{fill, is_row};
 use far_private::PrivateHeap;
-use far_word::Refused;
 use std::alloc::Global;
 use std::process::Abort;
 
-/// The longest object.
-pub(super) const ROOM: usize = 4088;
+/// A byte more than the longest object has.
+const ROOM: usize = 4089;
+
+/// A byte that no row begins with.
+const OTHER: u8 = 0xee;
+
+/// The name of objects that have none.
+const NO_NAME: u64 = u64::MAX;
 
 /// A heap, and the pointers of the objects that the test has named.
 #[derive(Drop)]
-pub(super) struct Stage {
+struct Stage {
     heap: PrivateHeap<Flawed>,
-    named: [u16; 8],
-    /// Whether what the device or a want of room refuses is asked once more.
+    named: [u16; 32],
     patient: bool,
 }
 
-/// A heap over a device with a flaw.
-pub(super) fn heap_over(
-    alloc: Global,
-    logs: u64,
-    flaw: Flaw,
-) -> Result<PrivateHeap<Flawed>, Refused> {
-    PrivateHeap::new(alloc, logs, false, Flawed::new(alloc, flaw))
-}
-
 impl Stage {
-    // What of one call isn't the caller's fault, and may be otherwise the next time.
-    fn is_to_try(&self, answer: Result<(), Refused>) -> bool {
-        self.patient
-            && matches!(
-                answer,
-                Err(Refused::NoRoom | Refused::Device | Refused::Damaged | Refused::Memory)
-            )
-    }
-
-    fn pointer(&self, name: usize) -> u16 {
-        self.named.get(name).copied().unwrap_or(u16::MAX)
-    }
-
-    fn alloc(&mut self, len: u16, structure: u8) -> Result<u16, Refused> {
-        let answer = self.heap.alloc(len, structure);
-        if self.is_to_try(answer.map(|_| ())) {
-            return self.heap.alloc(len, structure);
+    // A number that is no name stands for a pointer.
+    fn pointer(&self, name: u64) -> u16 {
+        match self.named.get(name as usize) {
+            Some(pointer) => *pointer,
+            None => (name.wrapping_sub(1000) % 65536) as u16,
         }
-        answer
     }
 
-    fn read(&mut self, name: usize, from: usize, out: &mut [u8]) -> Result<(), Refused> {
-        let pointer = self.pointer(name);
-        let answer = self.heap.read(pointer, from, out);
-        if self.is_to_try(answer) {
-            return self.heap.read(pointer, from, out);
+    // Whether what was said isn't the caller's fault, and may be otherwise the next time.
+    fn is_to_try(&self, said: u8) -> bool {
+        self.patient && (said == 1 || said == 2 || said == 10 || said == 11)
+    }
+
+    // Reads, writes or updates a range: what is said.
+    fn ask(&mut self, verb: u8, range: Range, bytes: &mut [u8]) -> u8 {
+        let part = Part {
+            pointer: self.pointer(range.name),
+            from: range.from as usize,
+            more: byte_of(range.more),
+        };
+        let said = ask(&mut self.heap, verb, part, bytes);
+        if !self.is_to_try(said) {
+            return said;
         }
-        answer
+        ask(&mut self.heap, verb, part, bytes)
     }
 
-    fn write(&mut self, name: usize, from: usize, bytes: &[u8]) -> Result<(), Refused> {
-        let pointer = self.pointer(name);
-        let answer = self.heap.write(pointer, from, bytes);
-        if self.is_to_try(answer) {
-            return self.heap.write(pointer, from, bytes);
-        }
-        answer
-    }
-
-    fn makes(&mut self, name: usize, len: u16) -> bool {
-        let answer = self.alloc(len, structure_of(name));
-        self.takes(name, answer)
-    }
-
-    fn makes_with(&mut self, name: usize, bytes: &[u8]) -> bool {
-        let answer = self.heap.alloc_with(bytes, structure_of(name));
-        self.takes(name, answer)
-    }
-
-    // Names the pointer of a new object, if it was made.
-    fn takes(&mut self, name: usize, answer: Result<u16, Refused>) -> bool {
-        let (Ok(pointer), Some(place)) = (answer, self.named.get_mut(name)) else {
+    // Whether that is said, and the bytes are as they have to be.
+    fn does_range(&mut self, verb: u8, range: Range, refusal: u8) -> bool {
+        let mut room = [OTHER; ROOM];
+        let Some(bytes) = room.get_mut(..range.count as usize) else {
             return false;
         };
-        *place = pointer;
-        true
+        let (first, step) = (byte_of(range.first), byte_of(range.step));
+        if verb == b'f' {
+            fill(bytes, first, step);
+        }
+        let said = self.ask(verb, range, bytes);
+        said == refusal && is_left(verb, said, bytes, first, step)
     }
 
-    fn makes_none(&mut self, len: u16, why: Refused) -> bool {
-        let bytes = [1; ROOM + 1];
-        let with = match bytes.get(..len as usize) {
-            Some(bytes) => self.heap.alloc_with(bytes, 1),
-            None => Err(why),
+    // Names an object that was made.
+    fn give_name(&mut self, name: u64, pointer: u16) {
+        if let Some(place) = self.named.get_mut(name as usize) {
+            *place = pointer;
+        }
+    }
+
+    // Makes an object of zeros: what is said.
+    fn make(&mut self, name: u64, len: u16) -> u8 {
+        let (mut said, mut pointer) = alloc(&mut self.heap, len, byte_of(name));
+        if self.is_to_try(said) {
+            (said, pointer) = alloc(&mut self.heap, len, byte_of(name));
+        }
+        self.give_name(name, pointer);
+        said
+    }
+
+    // The same of a row.
+    fn make_row(&mut self, name: u64, len: u16, first: u8, step: u8) -> u8 {
+        let mut room = [0; ROOM];
+        let Some(bytes) = room.get_mut(..len as usize) else {
+            return self.make(name, len);
         };
-        with == Err(why) && self.alloc(len, 1) == Err(why)
+        fill(bytes, first, step);
+        let (mut said, mut pointer) = alloc_with(&mut self.heap, bytes, byte_of(name));
+        if self.is_to_try(said) {
+            (said, pointer) = alloc_with(&mut self.heap, bytes, byte_of(name));
+        }
+        self.give_name(name, pointer);
+        said
     }
 
-    // How many objects of a length are made, so many at most.
-    fn make_many(&mut self, most: u16, len: u16) -> u16 {
+    // How many are made of a length, so many at most.
+    fn make_many(&mut self, most: u16, len: u16, has_row: bool) -> u16 {
         for made in 0..most {
-            if self.alloc(len, 1).is_err() {
+            let said = if has_row {
+                self.make_row(NO_NAME, len, OTHER, 0)
+            } else {
+                self.make(NO_NAME, len)
+            };
+            if said != 0 {
                 return made;
             }
         }
         most
     }
 
-    fn makes_up_to(&mut self, least: u16, most: u16, len: u16, why: Refused) -> bool {
-        let made = self.make_many(most.saturating_add(1), len);
-        least <= made && made <= most && self.alloc(len, 1) == Err(why)
+    // `new`.
+    fn does_new(&mut self, act: &Act) -> bool {
+        let (name, len) = (act.number(0), act.short(1));
+        let said = act.refusal();
+        (said == 0 || self.make_row(name, len, OTHER, 0) == said) && self.make(name, len) == said
     }
 
-    fn fill(&mut self, name: usize, from: usize, count: u16, byte: u8) -> Result<(), Refused> {
-        let bytes = [byte; ROOM + 1];
-        match bytes.get(..count as usize) {
-            Some(bytes) => self.write(name, from, bytes),
-            None => Err(Refused::Syntax(0)),
+    // `bytes`.
+    fn does_bytes(&mut self, act: &Act) -> bool {
+        let (first, step) = (byte_of(act.number(2)), byte_of(act.number(3)));
+        self.make_row(act.number(0), act.short(1), first, step) == act.refusal()
+    }
+
+    // `until`.
+    fn does_until(&mut self, act: &Act) -> bool {
+        let (least, most, len) = (act.short(0), act.short(1), act.short(2));
+        let made = self.make_many(most.saturating_add(1), len, false);
+        least <= made && made <= most && self.make(NO_NAME, len) == act.refusal()
+    }
+
+    // Acts that make objects.
+    fn makes(&mut self, act: &Act) -> bool {
+        let (count, len) = (act.short(0), act.short(1));
+        match act.verb {
+            b'n' => self.does_new(act),
+            b'b' => self.does_bytes(act),
+            b'm' => self.make_many(count, len, false) == count,
+            b'p' => self.make_many(count, len, true) == count,
+            _ => self.does_until(act),
         }
     }
 
-    fn update(
-        &mut self,
-        name: usize,
-        from: usize,
-        bytes: &mut [u8],
-        more: u8,
-    ) -> Result<(), Refused> {
-        let pointer = self.pointer(name);
-        let answer = self
-            .heap
-            .update(pointer, from, bytes, |bytes| add(bytes, more));
-        if self.is_to_try(answer) {
-            return self
-                .heap
-                .update(pointer, from, bytes, |bytes| add(bytes, more));
-        }
-        answer
+    // Whether a row is written or read. One without bytes always is.
+    fn has(&mut self, verb: u8, range: Range) -> bool {
+        range.count == 0 || self.does_range(verb, range, 0)
     }
 
-    // What was written is told.
-    fn updates(&mut self, name: usize, from: usize, count: u16, more: u8) -> bool {
-        let (mut room, mut now) = ([0; ROOM], [0; ROOM]);
-        let (Some(bytes), Some(now)) = (
-            room.get_mut(..count as usize),
-            now.get_mut(..count as usize),
-        ) else {
-            return false;
-        };
-        let before = self.read(name, from, now);
-        add(now, more);
-        before == Ok(()) && self.update(name, from, bytes, more) == Ok(()) && *bytes == *now
+    // Whether a range is written and read, with all else of the object as it was.
+    fn is_written(&mut self, name: u64, len: u64, from: u64, count: u64) -> bool {
+        let end = from.saturating_add(count);
+        let part = row(name, from, count, 101);
+        self.has(b'f', row(name, 0, len, 1))
+            && self.has(b'f', part)
+            && self.has(b'h', part)
+            && self.has(b'h', row(name, 0, from, 1))
+            && self.has(
+                b'h',
+                row(name, end, len.saturating_sub(end), end.saturating_add(1)),
+            )
     }
 
-    // What is refused leaves the bytes that it was lent as they were.
-    fn updates_none(&mut self, name: usize, from: usize, count: u16, why: Refused) -> bool {
-        let mut room = [0xee; ROOM + 1];
-        match room.get_mut(..count as usize) {
-            Some(bytes) => {
-                self.update(name, from, bytes, 1) == Err(why)
-                    && bytes.iter().all(|byte| *byte == 0xee)
+    // `each`.
+    fn writes_each(&mut self, name: u64, len: u64) -> bool {
+        let width = len.max(1);
+        for range in 0..len.saturating_mul(len) {
+            let from = range % width;
+            let count = (range / width).saturating_add(1);
+            if from.saturating_add(count) <= len && !self.is_written(name, len, from, count) {
+                return false;
             }
-            None => false,
         }
+        true
     }
 
-    fn looks(&self, name: usize, len: Option<u16>) -> bool {
-        let pointer = self.pointer(name);
-        self.heap.holds(pointer) == len.is_some()
-            && self.heap.len_of(pointer) == len
-            && self.heap.structure_of(pointer) == len.map(|_| structure_of(name))
-    }
-
-    fn has(&mut self, name: usize, from: usize, count: u16, byte: u8) -> bool {
-        let mut room = [!byte; ROOM + 1];
-        match room.get_mut(..count as usize) {
-            Some(out) => {
-                self.read(name, from, out) == Ok(()) && out.iter().all(|found| *found == byte)
+    // `set`.
+    fn makes_set(&mut self, count: u64) -> bool {
+        for name in 0..count {
+            let all = whole(name, name);
+            let len = (all.count % 65536) as u16;
+            if self.make(name, len) != 0 || !self.has(b'f', all) {
+                return false;
             }
-            None => false,
+        }
+        true
+    }
+
+    // Whether an object of the set has all bytes the same, and no more.
+    fn is_all(&mut self, name: u64, byte: u64) -> bool {
+        let all = whole(name, byte);
+        let behind = row(name, all.count, 1, 0);
+        self.has(b'h', all) && self.does_range(b'h', behind, 8)
+    }
+
+    // `wrong`.
+    fn has_wrong(&mut self, count: u64, most: u64) -> bool {
+        let mut wrong: u64 = 0;
+        for name in 0..count {
+            if !self.is_all(name, name) {
+                if !self.is_all(name, u64::from(!byte_of(name))) {
+                    return false;
+                }
+                wrong = wrong.saturating_add(1);
+            }
+        }
+        wrong <= most
+    }
+
+    // Acts of several calls.
+    fn does_several(&mut self, act: &Act) -> bool {
+        let (first, second) = (act.number(0), act.number(1));
+        match act.verb {
+            b'e' => self.writes_each(first, second),
+            b's' => self.makes_set(first),
+            _ => self.has_wrong(first, second),
         }
     }
 
-    // A read that is refused leaves what it was lent as it was.
-    fn reads_none(&mut self, name: usize, from: usize, count: u16, why: Refused) -> bool {
-        let mut room = [0xee; ROOM + 1];
-        match room.get_mut(..count as usize) {
-            Some(out) => self.read(name, from, out) == Err(why),
-            None => false,
-        }
+    // `drop`.
+    fn does_drop(&mut self, act: &Act) -> bool {
+        let pointer = self.pointer(act.number(0));
+        drop_object(&mut self.heap, pointer) == act.refusal()
     }
 
-    fn reads(&mut self, name: usize, from: usize, bytes: &[u8]) -> bool {
-        let mut room = [0; 64];
-        match room.get_mut(..bytes.len()) {
-            Some(out) => self.read(name, from, out) == Ok(()) && *out == *bytes,
-            None => false,
-        }
+    // `look`.
+    fn does_look(&self, act: &Act) -> bool {
+        let (len, structure) = look(&self.heap, self.pointer(act.number(0)));
+        len == act.short(1) && (len == 0 || structure == byte_of(act.number(0)))
     }
 
-    fn drop_named(&mut self, name: usize) -> Result<(), Refused> {
-        let pointer = self.pointer(name);
-        self.heap.drop_object(pointer)
+    // `round`.
+    fn does_round(&mut self, act: &Act) -> bool {
+        let most = act.number(0) as usize;
+        let freed = round(&mut self.heap, most);
+        act.number(1) as usize <= freed && freed <= most
     }
 
-    fn is_free(&mut self, pointer: u16) -> bool {
-        let none = Err(Refused::NotHeld);
-        self.heap.read(pointer, 0, &mut [0]) == none
-            && self.heap.read(pointer, 0, &mut []) == none
-            && self.heap.write(pointer, 0, &[1]) == none
-            && self.heap.write(pointer, usize::MAX, &[]) == none
-            && self
-                .heap
-                .update(pointer, 0, &mut [0], |bytes| add(bytes, 1))
-                == none
-            && self.heap.drop_object(pointer) == none
-            && !self.heap.holds(pointer)
+    // Whether the bytes of all logs are told, and so many objects.
+    fn tells_all(&self, logs: u64, objects: u64) -> bool {
+        let told = tell(&self.heap);
+        let bytes = told.live.saturating_add(told.dead);
+        bytes.saturating_add(told.unused) == logs.saturating_mul(4096)
+            && u64::from(told.near).saturating_add(u64::from(told.far)) == objects
     }
 
-    fn rounds(&mut self, most: usize, least: usize) -> bool {
-        match self.heap.make_room(&mut Oldest, most) {
-            Ok(freed) => least <= freed && freed <= most,
-            Err(_) => false,
-        }
-    }
-
-    fn tells(&self, logs: u64, objects: u64, told: Told) -> bool {
-        let now = self.heap.statistics();
-        let found = Told {
-            far: now.far,
-            fetches: now.fetches,
-            evictions: now.evictions,
-            spared: now.writes_spared,
-            faults: now.device_faults,
-        };
-        found == told
-            && u64::from(now.near).saturating_add(u64::from(now.far)) == objects
-            && now.live.saturating_add(now.dead).saturating_add(now.unused)
-                == logs.saturating_mul(4096)
+    // `tell`.
+    fn does_tell(&self, act: &Act) -> bool {
+        let told = tell(&self.heap);
+        self.tells_all(act.number(0), act.number(1))
+            && u64::from(told.far) == act.number(2)
+            && told.fetches == act.number(3)
+            && told.evictions == act.number(4)
+            && told.writes_spared == act.number(5)
+            && told.device_faults == act.number(6)
+            && told.far_bytes == act.number(7)
+            && told.moves == act.number(8)
     }
 
     // Whether an act comes out as it should.
-    fn does(&mut self, act: Act) -> bool {
-        match act {
-            Act::Makes(name, len) => self.makes(name, len),
-            Act::MakesWith(name, bytes) => self.makes_with(name, bytes),
-            Act::MakesNone(len, why) => self.makes_none(len, why),
-            Act::MakesMany(count, len) => self.make_many(count, len) == count,
-            Act::MakesUpTo(least, most, len, why) => self.makes_up_to(least, most, len, why),
-            Act::Fills(name, from, count, byte) => self.fill(name, from, count, byte) == Ok(()),
-            Act::FillsNone(name, from, count, why) => self.fill(name, from, count, 1) == Err(why),
-            Act::Has(name, from, count, byte) => self.has(name, from, count, byte),
-            Act::ReadsNone(name, from, count, why) => self.reads_none(name, from, count, why),
-            Act::Reads(name, from, bytes) => self.reads(name, from, bytes),
-            Act::Updates(name, from, count, more) => self.updates(name, from, count, more),
-            Act::UpdatesNone(name, from, count, why) => self.updates_none(name, from, count, why),
-            Act::Looks(name, len) => self.looks(name, len),
-            Act::Drops(name) => self.drop_named(name) == Ok(()),
-            Act::DropsNone(name, why) => self.drop_named(name) == Err(why),
-            Act::IsFree(pointer) => self.is_free(pointer),
-            Act::Rounds(most, freed) => self.rounds(most, freed),
-            Act::Tells(logs, objects, told) => self.tells(logs, objects, told),
+    fn does(&mut self, act: &Act) -> bool {
+        match act.verb {
+            b'f' | b'h' | b'a' => self.does_range(act.verb, act.range(), act.refusal()),
+            b'n' | b'b' | b'm' | b'p' | b'u' => self.makes(act),
+            b'e' | b's' | b'w' => self.does_several(act),
+            b'd' => self.does_drop(act),
+            b'l' => self.does_look(act),
+            b'r' => self.does_round(act),
+            b't' => self.does_tell(act),
+            _ => false,
         }
     }
 
-    // Whether each act does.
-    fn does_all(&mut self, acts: &[Act]) -> bool {
-        for act in acts {
-            if !self.does(*act) {
+    // Whether each act of a text does, and the last one is ended.
+    fn does_text(&mut self, text: &str, turn: u64) -> bool {
+        let mut act = Act::new();
+        for letter in text.as_bytes() {
+            if *letter == b';' {
+                if !self.does(&act) {
+                    return false;
+                }
+                act = Act::new();
+            } else {
+                act.take(*letter, turn);
+            }
+        }
+        act.is_blank()
+    }
+
+    // The same of each text of a turn.
+    fn does_turn(&mut self, texts: &[&str], turn: u64) -> bool {
+        for text in texts {
+            if !self.does_text(text, turn) {
+                return false;
+            }
+        }
+        true
+    }
+
+    // The same of each turn of a play.
+    fn does_turns(&mut self, play: &Play) -> bool {
+        for turn in 0..play.turns {
+            if !self.does_turn(play.parts, turn.saturating_add(1)) {
                 return false;
             }
         }
@@ -275,39 +314,44 @@ impl Stage {
     }
 }
 
-// The data structure of the object of a name.
-fn structure_of(name: usize) -> u8 {
-    (name % 256) as u8
-}
-
-// Adds a number to each byte.
-fn add(bytes: &mut [u8], more: u8) {
-    for byte in bytes {
-        *byte = byte.wrapping_add(more);
+// Whether bytes are as a call leaves them that says so: a row where it is done, and else what they were before an update.
+fn is_left(verb: u8, said: u8, bytes: &[u8], first: u8, step: u8) -> bool {
+    if said == 0 {
+        is_row(bytes, first, step)
+    } else {
+        verb != b'a' || is_row(bytes, OTHER, 0)
     }
 }
 
-/// Whether each part of a test comes out on a new heap.
-pub(super) fn plays(alloc: Global, test: Play, patient: bool) -> bool {
-    let Ok(heap) = heap_over(alloc, test.logs, test.flaw) else {
-        return false;
-    };
-    let mut stage = Stage {
-        heap,
-        named: [u16::MAX; 8],
-        patient,
-    };
-    for part in test.parts {
-        if !stage.does_all(part) {
-            return false;
+// Whether a play comes out on its k-th heap.
+fn plays_on(alloc: Global, play: &Play, k: u64) -> bool {
+    match heap_over(alloc, play.logs, play.flaw, play.at.saturating_add(k)) {
+        Ok(heap) => {
+            let mut stage = Stage {
+                heap,
+                named: [u16::MAX; 32],
+                patient: play.patient,
+            };
+            stage.does_turns(play)
+        }
+        Err(_) => false,
+    }
+}
+
+// The first heap on which a play doesn't come out, or how many it has.
+fn first_wrong(alloc: Global, play: &Play) -> u64 {
+    for k in 0..play.heaps {
+        if !plays_on(alloc, play, k) {
+            return k;
         }
     }
-    true
+    play.heaps
 }
 
-/// Each test comes out as it should.
-pub(super) fn play(rt: &impl Abort, alloc: Global, tests: &[Play]) {
-    for test in tests {
-        assert!(rt; plays(alloc, *test, false), "{}", test.name);
+/// Each play comes out as it should on each of its heaps.
+pub(super) fn play(rt: &impl Abort, alloc: Global, plays: &[Play]) {
+    for play in plays {
+        let wrong = first_wrong(alloc, play);
+        assert!(rt; wrong == play.heaps, "{} {wrong}", play.name);
     }
 }
