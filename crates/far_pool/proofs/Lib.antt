@@ -1,0 +1,6 @@
+mod Counting
+mod Counts
+mod Growing
+mod Histories
+mod Shelves
+mod Workers

@@ -1,0 +1,5 @@
+pub mod Bits
+pub mod Generations
+pub mod History
+pub mod Plans
+pub mod Pool

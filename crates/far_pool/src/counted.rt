@@ -1,0 +1,258 @@
+//! A heap, with how often each of its pointers was given up.
+
+ghost use Rattle.std.specs.Prelude.{◌≡◌, ◌<◌, ◌≤◌, ◌+◌, ℕ, List, true, false, None, Some, Err, is_some, filter, IfNone, IfOk, IfErr, IfSome, OnErr, OnOk, length, slice_range};
+ghost use Rattle.std.specs.Fn.{FnOnceReturnsAtMut, FnOnceTakesAtMut};
+ghost use Rattle.std.specs.Option.{option_map};
+ghost use Rattle.far_word.specs.declared.refused.Refused.{Refused as Refusal};
+ghost use Rattle.far_word.specs.declared.refused.Refused.TheVariants.{NotHeld};
+ghost use Rattle.far_word.specs.declared.sizes.TheConstants.{POINTERS};
+ghost use Rattle.far_private.specs.Heap.{IsWell, IsWhyNoAccess, is_length, new_object, object, object_with, size_of, structure_of};
+ghost use Rattle.far_private.specs.Objects.{bytes_of, rewritten};
+ghost use Rattle.far_pool.specs.Pool.{IsWhyNone, UpdatesOn, dropping, found, generation_on, object_on, putting, refusal_of};
+
+use far_device::Device;
+use far_private::{PrivateHeap, Statistics};
+use far_word::{POINTERS, Refused};
+use std::alloc::Global;
+use std::marker::Model;
+
+/// A heap; of each pointer, how often an object of it was dropped; and how many objects there are, which is a hint alone.
+#[derive(Drop)]
+pub(crate) struct Counted<D: Device + Drop> {
+    heap: PrivateHeap<D>,
+    generations: Vec<u16>,
+    used: u16,
+}
+
+impl<D: Device + Drop> Model for Counted<D> {
+    ghost use Rattle.std.specs.Prelude.{◌≡◌, length};
+    ghost use Rattle.far_word.specs.declared.sizes.TheConstants.{POINTERS};
+    ghost use Rattle.far_pool.specs.Pool.{Shelf};
+
+    ghost Value = { Shelf };
+
+    ghost view = { λ c. record { honest = c.heap.honest; objects = c.heap.objects; generations = c.generations.items } };
+
+    ghost invariant = { λ c. length c.generations.items ≡ POINTERS };
+}
+
+impl<D: Device + Drop> Counted<D> {
+    // A heap that has no object.
+    pub(crate) fn new(alloc: Global, heap: PrivateHeap<D>) -> Result<Counted<D>, Refused>
+        requires { (p : ℕ) → object heap p ≡ None }
+        ensures empty { IfOk result (λ c. (p : ℕ) → object_on c p ≡ None) }
+        ensures zero { IfOk result (λ c. (p : ℕ) → generation_on c p ≡ 0) }
+        ensures honest { IfOk result (λ c. c.honest ≡ heap.honest) }
+    {
+        let Ok(generations) = vec![in alloc; 0u16; POINTERS as usize] else {
+            return Err(Refused::Memory);
+        };
+        Ok(Counted {
+            heap,
+            generations,
+            used: 0,
+        })
+    }
+
+    // What holds between any two calls.
+    pub(crate) fn keeps_law(&self)
+        ensures many { length self.now.objects ≡ POINTERS }
+        ensures counts { length self.now.generations ≡ POINTERS }
+        ensures well { (p : ℕ) → IsWell self.now.honest (object_on self.now p) }
+    {
+        self.heap.keeps_law();
+    }
+
+    pub(crate) fn is_full(&self) -> bool {
+        self.used >= POINTERS
+    }
+
+    pub(crate) fn generation_of(&self, pointer: u16) -> u16
+        requires { pointer < POINTERS }
+        ensures { result ≡ generation_on self.now pointer }
+    {
+        self.generations[pointer as usize]
+    }
+
+    // Whether a pointer was given up just so often.
+    #[inline(always)]
+    fn knows(&self, pointer: u16, generation: u16) -> bool
+        ensures known { result ≡ true → (generation_on self.now pointer ≡ generation) × (pointer < length self.now.objects) × (pointer < length self.now.generations) }
+        ensures none { result ≡ false → found self.now pointer generation ≡ None }
+    {
+        self.heap.keeps_law();
+        if pointer >= POINTERS {
+            return false;
+        }
+        self.generations[pointer as usize] == generation
+    }
+
+    // The pointer of a new object of zeros, and its generation.
+    pub(crate) fn alloc_zeros(&mut self, len: u16, structure: u8) -> Result<(u16, u16), Refused>
+        ensures made { IfOk result (λ p. (p.0 < POINTERS) × (p.0 < length self.old.objects) × (generation_on self.old p.0 ≡ p.1) × (object_on self.old p.0 ≡ None) × (self.new ≡ putting p.0 (Some (new_object self.old.honest len structure)) self.old)) }
+        ensures done { OnOk result (is_length len ≡ true) }
+        ensures refused { OnErr result (self.new ≡ self.old) }
+        ensures why { IfErr result (λ why. IsWhyNone len why) }
+    {
+        self.heap.keeps_law();
+        match self.heap.alloc(len, structure) {
+            Ok(pointer) => {
+                self.used = self.used.saturating_add(1);
+                let generation = self.generations[pointer as usize];
+                Ok((pointer, generation))
+            }
+            Err(why) => Err(why),
+        }
+    }
+
+    // The same of one of these bytes.
+    pub(crate) fn alloc(&mut self, bytes: &[u8], structure: u8) -> Result<(u16, u16), Refused>
+        ensures made { IfOk result (λ p. (p.0 < POINTERS) × (p.0 < length self.old.objects) × (generation_on self.old p.0 ≡ p.1) × (object_on self.old p.0 ≡ None) × (self.new ≡ putting p.0 (Some (object_with self.old.honest structure bytes.now)) self.old)) }
+        ensures done { OnOk result (is_length (length bytes.now) ≡ true) }
+        ensures refused { OnErr result (self.new ≡ self.old) }
+        ensures why { IfErr result (λ why. IsWhyNone (length bytes.now) why) }
+    {
+        self.heap.keeps_law();
+        match self.heap.alloc_with(bytes, structure) {
+            Ok(pointer) => {
+                self.used = self.used.saturating_add(1);
+                let generation = self.generations[pointer as usize];
+                Ok((pointer, generation))
+            }
+            Err(why) => Err(why),
+        }
+    }
+
+    #[inline(always)]
+    pub(crate) fn len_of(&self, pointer: u16, generation: u16) -> Option<u16>
+        ensures { result ≡ size_of (found self.now pointer generation) }
+    {
+        if !self.knows(pointer, generation) {
+            return None;
+        }
+        self.heap.len_of(pointer)
+    }
+
+    pub(crate) fn structure_of(&self, pointer: u16, generation: u16) -> Option<u8>
+        ensures { result ≡ structure_of (found self.now pointer generation) }
+    {
+        if !self.knows(pointer, generation) {
+            return None;
+        }
+        self.heap.structure_of(pointer)
+    }
+
+    pub(crate) fn holds(&self, pointer: u16, generation: u16) -> bool
+        ensures { result ≡ is_some (found self.now pointer generation) }
+    {
+        if !self.knows(pointer, generation) {
+            return false;
+        }
+        self.heap.holds(pointer)
+    }
+
+    #[inline(always)]
+    pub(crate) fn read(
+        &mut self,
+        pointer: u16,
+        generation: u16,
+        from: usize,
+        out: &mut [u8],
+    ) -> Result<(), Refused>
+        ensures same { self.new ≡ self.old }
+        ensures long { length out.new ≡ length out.old }
+        ensures read { OnOk result (IfSome (bytes_of (found self.old pointer generation)) (λ bytes. out.new ≡ slice_range bytes from (from + length out.old))) }
+        ensures done { OnOk result (refusal_of (found self.old pointer generation) from (length out.old) ≡ None) }
+        ensures barred { (why : Refusal) → refusal_of (found self.old pointer generation) from (length out.old) ≡ Some why → result ≡ Err why }
+        ensures why { IfErr result (λ why. IsWhyNoAccess self.old.honest (refusal_of (found self.old pointer generation) from (length out.old)) why) }
+    {
+        if !self.knows(pointer, generation) {
+            return Err(Refused::NotHeld);
+        }
+        self.heap.read(pointer, from, out)
+    }
+
+    #[inline(always)]
+    pub(crate) fn write(
+        &mut self,
+        pointer: u16,
+        generation: u16,
+        from: usize,
+        bytes: &[u8],
+    ) -> Result<(), Refused>
+        ensures written { OnOk result (self.new ≡ putting pointer (option_map (rewritten from bytes.now) (found self.old pointer generation)) self.old) }
+        ensures known { OnOk result ((generation_on self.old pointer ≡ generation) × (pointer < length self.old.objects) × (pointer < length self.old.generations)) }
+        ensures refused { OnErr result (self.new ≡ self.old) }
+        ensures done { OnOk result (refusal_of (found self.old pointer generation) from (length bytes.now) ≡ None) }
+        ensures barred { (why : Refusal) → refusal_of (found self.old pointer generation) from (length bytes.now) ≡ Some why → result ≡ Err why }
+        ensures why { IfErr result (λ why. IsWhyNoAccess self.old.honest (refusal_of (found self.old pointer generation) from (length bytes.now)) why) }
+    {
+        if !self.knows(pointer, generation) {
+            return Err(Refused::NotHeld);
+        }
+        self.heap.write(pointer, from, bytes)
+    }
+
+    pub(crate) fn update<F: FnOnce(&mut [u8])>(
+        &mut self,
+        pointer: u16,
+        generation: u16,
+        from: usize,
+        bytes: &mut [u8],
+        change: F,
+    ) -> Result<(), Refused>
+        requires takes { (read : List ℕ) → length read ≡ length bytes.old → FnOnceTakesAtMut F.FnOnce change read }
+        ensures changed { OnOk result (UpdatesOn (FnOnceReturnsAtMut F.FnOnce change) pointer generation from (length bytes.old) bytes.new self.old self.new) }
+        ensures known { OnOk result ((generation_on self.old pointer ≡ generation) × (pointer < length self.old.objects) × (pointer < length self.old.generations)) }
+        ensures refused { OnErr result (self.new ≡ self.old) }
+        ensures kept { OnErr result (bytes.new ≡ bytes.old) }
+        ensures done { OnOk result (refusal_of (found self.old pointer generation) from (length bytes.old) ≡ None) }
+        ensures barred { (why : Refusal) → refusal_of (found self.old pointer generation) from (length bytes.old) ≡ Some why → result ≡ Err why }
+        ensures why { IfErr result (λ why. IsWhyNoAccess self.old.honest (refusal_of (found self.old pointer generation) from (length bytes.old)) why) }
+    {
+        if !self.knows(pointer, generation) {
+            return Err(Refused::NotHeld);
+        }
+        self.heap.update(pointer, from, bytes, change)
+    }
+
+    pub(crate) fn drop_object(&mut self, pointer: u16, generation: u16) -> Result<(), Refused>
+        ensures dropped { OnOk result ((is_some (found self.old pointer generation) ≡ true) × (self.new ≡ dropping pointer generation self.old)) }
+        ensures known { OnOk result ((generation_on self.old pointer ≡ generation) × (pointer < length self.old.objects) × (pointer < length self.old.generations)) }
+        ensures refused { IfErr result (λ why. (why ≡ NotHeld) × (found self.old pointer generation ≡ None) × (self.new ≡ self.old)) }
+    {
+        if !self.knows(pointer, generation) {
+            return Err(Refused::NotHeld);
+        }
+        match self.heap.drop_object(pointer) {
+            Ok(()) => {
+                self.generations[pointer as usize] = generation.wrapping_add(1);
+                self.used = self.used.saturating_sub(1);
+                Ok(())
+            }
+            Err(_) => Err(Refused::NotHeld),
+        }
+    }
+
+    // The first pointer from one on that has an object.
+    pub(crate) fn next_from(&self, from: u16) -> Option<u16>
+        ensures found { IfSome result (λ p. (from ≤ p) × (p < POINTERS) × (is_some (object_on self.now p) ≡ true) × ((q : ℕ) → from ≤ q → q < p → object_on self.now q ≡ None)) }
+        ensures none { IfNone result ((q : ℕ) → from ≤ q → q < POINTERS → object_on self.now q ≡ None) }
+    {
+        for pointer in from..POINTERS {
+            if self.heap.holds(pointer) {
+                return Some(pointer);
+            }
+        }
+        None
+    }
+
+    // What the heap has, and what it has done.
+    pub(crate) fn statistics(&self) -> Statistics
+        ensures count { result.near + result.far ≡ length (filter is_some self.now.objects) }
+        ensures few { result.near + result.far ≤ POINTERS }
+    {
+        self.heap.keeps_law();
+        self.heap.statistics()
+    }
+}

@@ -1,0 +1,120 @@
+//! What a worker has, and what it has done.
+
+ghost use Rattle.std.specs.Prelude.{◌≡◌, ◌+◌, ◌^◌, ◌≤◌};
+
+use far_private::Statistics;
+use std::fmt;
+
+/// What a worker has, and what it has done since it was made: sums over its heaps.
+#[derive(Clone, Copy, Debug, PartialEq, Eq)]
+pub struct WorkerStatistics {
+    /// Its heaps.
+    pub heaps: u32,
+    /// Objects that lie in the logs.
+    pub near: u64,
+    /// Objects that lie on a device alone.
+    pub far: u64,
+    /// Bytes of the logs that objects take, with a header of 8 bytes each, and each in whole words.
+    pub live: u64,
+    /// Bytes of the logs that nothing needs any more, until a round gives their log back.
+    pub dead: u64,
+    /// Bytes of the logs that were not taken since their log was free.
+    pub unused: u64,
+    /// Bytes of the objects on the devices alone, headers not counted.
+    pub far_bytes: u64,
+    /// Objects that were brought near.
+    pub fetches: u64,
+    /// Objects that went far.
+    pub evictions: u64,
+    /// Those of them that were not written, as the device had their bytes.
+    pub writes_spared: u64,
+    /// Objects that went to another place in the logs.
+    pub moves: u64,
+    /// Rounds that were made.
+    pub rounds: u64,
+    /// Calls of devices that these failed.
+    pub device_faults: u64,
+    /// The heap whose device failed most often, the first of them; `None` if none did.
+    pub worst: Option<u32>,
+    /// How often that failed.
+    pub worst_faults: u64,
+}
+
+impl WorkerStatistics {
+    // Of no heap.
+    pub(crate) fn none() -> WorkerStatistics
+        ensures { result.near + result.far ≡ 0 }
+    {
+        WorkerStatistics {
+            heaps: 0,
+            near: 0,
+            far: 0,
+            live: 0,
+            dead: 0,
+            unused: 0,
+            far_bytes: 0,
+            fetches: 0,
+            evictions: 0,
+            writes_spared: 0,
+            moves: 0,
+            rounds: 0,
+            device_faults: 0,
+            worst: None,
+            worst_faults: 0,
+        }
+    }
+
+    // Whether the next heap's device failed more often than any before.
+    fn compare(&mut self, faults: u64)
+        ensures near { self.new.near ≡ self.old.near }
+        ensures far { self.new.far ≡ self.old.far }
+    {
+        if faults > self.worst_faults {
+            self.worst = Some(self.heaps);
+            self.worst_faults = faults;
+        }
+    }
+
+    // Of a heap more.
+    pub(crate) fn add(&mut self, more: &Statistics)
+        requires { self.old.near + self.old.far ≤ 2 ^ 60 }
+        ensures { self.new.near + self.new.far ≡ self.old.near + self.old.far + (more.now.near + more.now.far) }
+    {
+        self.compare(more.device_faults);
+        self.heaps = self.heaps.saturating_add(1);
+        self.near += u64::from(more.near);
+        self.far += u64::from(more.far);
+        self.live = self.live.saturating_add(more.live);
+        self.dead = self.dead.saturating_add(more.dead);
+        self.unused = self.unused.saturating_add(more.unused);
+        self.far_bytes = self.far_bytes.saturating_add(more.far_bytes);
+        self.fetches = self.fetches.saturating_add(more.fetches);
+        self.evictions = self.evictions.saturating_add(more.evictions);
+        self.writes_spared = self.writes_spared.saturating_add(more.writes_spared);
+        self.moves = self.moves.saturating_add(more.moves);
+        self.rounds = self.rounds.saturating_add(more.rounds);
+        self.device_faults = self.device_faults.saturating_add(more.device_faults);
+    }
+}
+
+impl fmt::Display for WorkerStatistics {
+    fn fmt<W: fmt::Write>(&self, f: &mut fmt::Formatter<W>) -> fmt::Result {
+        write!(
+            f,
+            "heaps {} near {} far {} live {} dead {} unused {} far_bytes {} fetches {} evictions {} spared {} moves {} rounds {} faults {}",
+            self.heaps,
+            self.near,
+            self.far,
+            self.live,
+            self.dead,
+            self.unused,
+            self.far_bytes,
+            self.fetches,
+            self.evictions,
+            self.writes_spared,
+            self.moves,
+            self.rounds,
+            self.device_faults
+        )
+    }
+}

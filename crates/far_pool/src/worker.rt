@@ -1,0 +1,399 @@
+//! Heaps that one thread wholly owns, by handles.
+
+ghost use Rattle.std.specs.Prelude.{◌≡◌, ◌<◌, ◌+◌, ◌≤◌, ℕ, List, true, false, None, Some, Err, length, slice_range, IfOk, IfErr, IfSome, OnErr, OnOk};
+ghost use Rattle.std.specs.Fn.{FnOnceReturnsAtMut, FnOnceTakesAtMut};
+ghost use Rattle.far_word.specs.declared.refused.Refused.{Refused as Refusal};
+ghost use Rattle.far_word.specs.declared.refused.Refused.TheVariants.{Length, NotHeld};
+ghost use Rattle.far_private.specs.Heap.{IsWell, IsWhyNoAccess, is_length, new_object, object_with, size_of, structure_of};
+ghost use Rattle.far_pool.specs.declared.handle.Handle.{Handle as AnyHandle};
+ghost use Rattle.far_pool.specs.Pool.{Changes, IsWhyNone, Makes, NextGeneration, Same, Updates, Writes, at, bytes_at, generation_in, generation_on, has, object_on, refusal_of};
+ghost use Rattle.far_pool.specs.declared.worker.TheConstants.{MOST_HEAPS};
+
+mod handles;
+mod telling;
+
+use crate::counted::Counted;
+use crate::handle::Handle;
+use crate::maker::MakeDevice;
+use crate::plan::Layout;
+use far_device::Device;
+use far_private::PrivateHeap;
+use far_word::{LONGEST, Refused};
+pub use handles::Handles;
+use std::alloc::Global;
+use std::collections::VecDeque;
+use std::marker::{Model, PhantomData};
+
+// What a worker has.
+#[derive(Drop)]
+struct Parts<D: Device + Drop, M: MakeDevice<D> + Drop> {
+    alloc: Global,
+    maker: M,
+    logs: u64,
+    honest: bool,
+    shelves: Vec<Counted<D>>,
+    // The heaps that may have a free pointer, each once, the next first. Nothing that is promised rests on it.
+    open: VecDeque<u32>,
+}
+
+/// The most heaps of a worker.
+const MOST_HEAPS: u32 = 2_097_152;
+
+/// Heaps that one thread wholly owns. To a contract it is its objects, by handle.
+#[derive(Drop)]
+pub struct Worker<D: Device + Drop, M: MakeDevice<D> + Drop> {
+    parts: Parts<D, M>,
+}
+
+impl<D: Device + Drop, M: MakeDevice<D> + Drop> Model for Worker<D, M> {
+    ghost use Rattle.std.specs.Prelude.{◌≡◌, ◌≤◌, length, true};
+    ghost use Rattle.far_pool.specs.declared.worker.TheConstants.{MOST_HEAPS};
+    ghost use Rattle.far_pool.specs.Pool.{AreAlike, Pool};
+
+    ghost Value = { Pool };
+
+    ghost view = { λ w. record { honest = w.parts.honest; shelves = w.parts.shelves.items } };
+
+    ghost invariant = { λ w. AreAlike w.parts.honest w.parts.shelves.items × (w.parts.honest ≡ true → M.honest ≡ true) × (length w.parts.shelves.items ≤ MOST_HEAPS) };
+}
+
+impl<D: Device + Drop, M: MakeDevice<D> + Drop> Worker<D, M> {
+    /// A worker of the heaps of a layout, each over a device that `maker` makes. `honest` says that these give back what they were given, and may
+    /// be true only of a maker that is proved so; else nothing is promised of bytes.
+    ///
+    /// Refused [`Refused::NoPointer`] where there would be more than 2,097,152 heaps, [`Refused::Shape`] where they have less than 2 logs or more than 64,
+    /// [`Refused::Memory`], and as `maker` refuses.
+    pub fn new(
+        alloc: Global,
+        maker: M,
+        layout: Layout,
+        honest: bool,
+    ) -> Result<Worker<D, M>, Refused>
+        requires honest { honest ≡ true → M.honest ≡ true }
+        ensures empty { IfOk result (λ worker. (h : AnyHandle) → at worker h ≡ None) }
+        ensures zero { IfOk result (λ worker. (h : AnyHandle) → generation_in worker h ≡ 0) }
+        ensures honest { IfOk result (λ worker. worker.honest ≡ honest) }
+    {
+        let mut worker = Worker::without_heaps(alloc, maker, layout.logs, honest);
+        for _ in 0..layout.heaps {
+            match worker.add_heap() {
+                Ok(_) => {}
+                Err(why) => return Err(why),
+            }
+        }
+        Ok(worker)
+    }
+
+    // A worker that has no heap.
+    fn without_heaps(alloc: Global, maker: M, logs: u64, honest: bool) -> Worker<D, M>
+        requires { honest ≡ true → M.honest ≡ true }
+        ensures empty { (h : AnyHandle) → at result h ≡ None }
+        ensures zero { (h : AnyHandle) → generation_in result h ≡ 0 }
+        ensures honest { result.honest ≡ honest }
+    {
+        Worker {
+            parts: Parts {
+                alloc,
+                maker,
+                logs,
+                honest,
+                shelves: Vec::new(alloc),
+                open: VecDeque::new(alloc),
+            },
+        }
+    }
+
+    /// Adds a heap beside those that the worker began with. No object changes.
+    ///
+    /// Refused [`Refused::NoPointer`] exactly where there are 2,097,152 heaps, and then [`Refused::Shape`], [`Refused::Memory`], and as the maker of devices refuses.
+    pub fn add_heap(&mut self) -> Result<u32, Refused>
+        ensures same { Same self.old self.new }
+        ensures there { IfOk result (λ heap. heap < length self.new.shelves) }
+    {
+        let Ok(number) = u32::try_from(self.parts.shelves.len()) else {
+            return Err(Refused::NoPointer);
+        };
+        if number >= MOST_HEAPS {
+            return Err(Refused::NoPointer);
+        }
+        match self.new_shelf(number) {
+            Ok(shelf) => self.add_shelf(number, shelf),
+            Err(why) => Err(why),
+        }
+    }
+
+    // A heap of a number, without an object.
+    fn new_shelf(&mut self, number: u32) -> Result<Counted<D>, Refused>
+        ensures same { self.new ≡ self.old }
+        ensures empty { IfOk result (λ c. (p : ℕ) → object_on c p ≡ None) }
+        ensures zero { IfOk result (λ c. (p : ℕ) → generation_on c p ≡ 0) }
+        ensures honest { IfOk result (λ c. c.honest ≡ self.old.honest) }
+    {
+        let device = match self.parts.maker.make(number) {
+            Ok(device) => device,
+            Err(why) => return Err(why),
+        };
+        let heap = match PrivateHeap::new(
+            self.parts.alloc,
+            self.parts.logs,
+            self.parts.honest,
+            device,
+        ) {
+            Ok(heap) => heap,
+            Err(why) => return Err(why),
+        };
+        Counted::new(self.parts.alloc, heap)
+    }
+
+    // Puts a new heap behind the others.
+    fn add_shelf(&mut self, number: u32, shelf: Counted<D>) -> Result<u32, Refused>
+        requires few { length self.old.shelves < MOST_HEAPS }
+        requires number { number ≡ length self.old.shelves }
+        requires empty { (p : ℕ) → object_on shelf p ≡ None }
+        requires zero { (p : ℕ) → generation_on shelf p ≡ 0 }
+        requires honest { shelf.honest ≡ self.old.honest }
+        ensures same { Same self.old self.new }
+        ensures there { IfOk result (λ heap. heap < length self.new.shelves) }
+    {
+        // There is room for all heaps then, so that none is left out where a drop puts it back.
+        let Ok(()) = self.parts.open.reserve(number as usize + 1) else {
+            return Err(Refused::Memory);
+        };
+        let Ok(()) = self.parts.open.push_back(number) else {
+            return Err(Refused::Memory);
+        };
+        let Ok(()) = self.parts.shelves.push(shelf) else {
+            let _ = self.parts.open.pop_back();
+            return Err(Refused::Memory);
+        };
+        Ok(number)
+    }
+
+    // The heap whose turn it is.
+    fn next_heap(&mut self) -> Option<u32>
+        ensures same { self.new ≡ self.old }
+        ensures there { IfSome result (λ heap. heap < length self.new.shelves) }
+    {
+        let Some(heap) = self.parts.open.pop_front() else {
+            return None;
+        };
+        let _ = self.parts.open.push_back(heap);
+        if heap as usize >= self.parts.shelves.len() {
+            return None;
+        }
+        Some(heap)
+    }
+
+    // Makes an object of zeros in a heap, which leaves the turn if that was its last pointer.
+    fn alloc_zeros_in(&mut self, heap: u32, len: u16, structure: u8) -> Result<Handle, Refused>
+        requires { heap < length self.old.shelves }
+        ensures made { IfOk result (λ handle. Makes handle (new_object self.old.honest len structure) self.old self.new) }
+        ensures done { OnOk result (is_length len ≡ true) }
+        ensures refused { OnErr result (self.new ≡ self.old) }
+        ensures why { IfErr result (λ why. IsWhyNone len why) }
+    {
+        let at = heap as usize;
+        match self.parts.shelves[at].alloc_zeros(len, structure) {
+            Ok(slot) => {
+                if self.parts.shelves[at].is_full() {
+                    let _ = self.parts.open.pop_back();
+                }
+                Ok(Handle {
+                    heap,
+                    pointer: slot.0,
+                    generation: slot.1,
+                })
+            }
+            Err(why) => Err(why),
+        }
+    }
+
+    // The same of an object of these bytes.
+    fn alloc_in(&mut self, heap: u32, bytes: &[u8], structure: u8) -> Result<Handle, Refused>
+        requires { heap < length self.old.shelves }
+        ensures made { IfOk result (λ handle. Makes handle (object_with self.old.honest structure bytes.now) self.old self.new) }
+        ensures done { OnOk result (is_length (length bytes.now) ≡ true) }
+        ensures refused { OnErr result (self.new ≡ self.old) }
+        ensures why { IfErr result (λ why. IsWhyNone (length bytes.now) why) }
+    {
+        let at = heap as usize;
+        match self.parts.shelves[at].alloc(bytes, structure) {
+            Ok(slot) => {
+                if self.parts.shelves[at].is_full() {
+                    let _ = self.parts.open.pop_back();
+                }
+                Ok(Handle {
+                    heap,
+                    pointer: slot.0,
+                    generation: slot.1,
+                })
+            }
+            Err(why) => Err(why),
+        }
+    }
+
+    /// Makes a new object of `len` zero bytes, 1 to 4,088, for a data structure, a number of the program's own choice. Its handle had no object.
+    ///
+    /// Refused, in this order: [`Refused::Length`] exactly where the length is out of range; [`Refused::NoPointer`] where each heap has 2,048 objects, and then `add_heap`
+    /// makes room for more; [`Refused::NoRoom`] where the heap whose turn it is has none, since its device doesn't take what lies near. The next call is another heap's.
+    pub fn alloc_zeros(&mut self, len: u16, structure: u8) -> Result<Handle, Refused>
+        ensures made { IfOk result (λ handle. Makes handle (new_object self.old.honest len structure) self.old self.new) }
+        ensures done { OnOk result (is_length len ≡ true) }
+        ensures refused { OnErr result (self.new ≡ self.old) }
+        ensures long { is_length len ≡ false → result ≡ Err Length }
+        ensures why { IfErr result (λ why. IsWhyNone len why) }
+    {
+        if len == 0 || len > LONGEST {
+            return Err(Refused::Length);
+        }
+        let Some(heap) = self.next_heap() else {
+            return Err(Refused::NoPointer);
+        };
+        self.alloc_zeros_in(heap, len, structure)
+    }
+
+    /// Makes a new object of these bytes, as [`Worker::alloc_zeros`] does.
+    pub fn alloc(&mut self, bytes: &[u8], structure: u8) -> Result<Handle, Refused>
+        ensures made { IfOk result (λ handle. Makes handle (object_with self.old.honest structure bytes.now) self.old self.new) }
+        ensures done { OnOk result (is_length (length bytes.now) ≡ true) }
+        ensures refused { OnErr result (self.new ≡ self.old) }
+        ensures long { is_length (length bytes.now) ≡ false → result ≡ Err Length }
+        ensures why { IfErr result (λ why. IsWhyNone (length bytes.now) why) }
+    {
+        if bytes.len() == 0 || bytes.len() > LONGEST as usize {
+            return Err(Refused::Length);
+        }
+        let Some(heap) = self.next_heap() else {
+            return Err(Refused::NoPointer);
+        };
+        self.alloc_in(heap, bytes, structure)
+    }
+
+    /// Reads bytes of an object, from one on, as many as `out` has: as they were written last, if the devices are honest.
+    ///
+    /// Refused, in this order: [`Refused::NotHeld`] exactly where the worker hasn't got the object, as of a handle whose object was dropped; [`Refused::Range`] exactly
+    /// where `out` has no byte or they pass the object's end; and then as a far object doesn't come.
+    #[inline(always)]
+    pub fn read(&mut self, handle: Handle, from: usize, out: &mut [u8]) -> Result<(), Refused>
+        ensures same { self.new ≡ self.old }
+        ensures long { length out.new ≡ length out.old }
+        ensures read { OnOk result (IfSome (bytes_at self.old handle) (λ bytes. out.new ≡ slice_range bytes from (from + length out.old))) }
+        ensures done { OnOk result (refusal_of (at self.old handle) from (length out.old) ≡ None) }
+        ensures barred { (why : Refusal) → refusal_of (at self.old handle) from (length out.old) ≡ Some why → result ≡ Err why }
+        ensures why { IfErr result (λ why. IsWhyNoAccess self.old.honest (refusal_of (at self.old handle) from (length out.old)) why) }
+    {
+        let at = handle.heap as usize;
+        if at >= self.parts.shelves.len() {
+            return Err(Refused::NotHeld);
+        }
+        self.parts.shelves[at].read(handle.pointer, handle.generation, from, out)
+    }
+
+    /// Writes bytes over those of an object, from one on. Refused as [`Worker::read`] is; then nothing has changed.
+    #[inline(always)]
+    pub fn write(&mut self, handle: Handle, from: usize, bytes: &[u8]) -> Result<(), Refused>
+        ensures written { OnOk result (Writes handle from bytes.now self.old self.new) }
+        ensures done { OnOk result (refusal_of (at self.old handle) from (length bytes.now) ≡ None) }
+        ensures refused { OnErr result (self.new ≡ self.old) }
+        ensures barred { (why : Refusal) → refusal_of (at self.old handle) from (length bytes.now) ≡ Some why → result ≡ Err why }
+        ensures why { IfErr result (λ why. IsWhyNoAccess self.old.honest (refusal_of (at self.old handle) from (length bytes.now)) why) }
+    {
+        let at = handle.heap as usize;
+        if at >= self.parts.shelves.len() {
+            return Err(Refused::NotHeld);
+        }
+        self.parts.shelves[at].write(handle.pointer, handle.generation, from, bytes)
+    }
+
+    /// Reads bytes of an object, from one on, as many as there is room for, has them changed by one call of `change`, and writes them back: one access, where
+    /// [`Worker::read`] and [`Worker::write`] are two. `bytes` has what was written then. Refused as [`Worker::read`] is; then nothing has changed, and `change` wasn't
+    /// called.
+    pub fn update<F: FnOnce(&mut [u8])>(
+        &mut self,
+        handle: Handle,
+        from: usize,
+        bytes: &mut [u8],
+        change: F,
+    ) -> Result<(), Refused>
+        requires takes { (read : List ℕ) → length read ≡ length bytes.old → FnOnceTakesAtMut F.FnOnce change read }
+        ensures changed { OnOk result (Updates (FnOnceReturnsAtMut F.FnOnce change) handle from (length bytes.old) bytes.new self.old self.new) }
+        ensures done { OnOk result (refusal_of (at self.old handle) from (length bytes.old) ≡ None) }
+        ensures refused { OnErr result (self.new ≡ self.old) }
+        ensures kept { OnErr result (bytes.new ≡ bytes.old) }
+        ensures barred { (why : Refusal) → refusal_of (at self.old handle) from (length bytes.old) ≡ Some why → result ≡ Err why }
+        ensures why { IfErr result (λ why. IsWhyNoAccess self.old.honest (refusal_of (at self.old handle) from (length bytes.old)) why) }
+    {
+        let at = handle.heap as usize;
+        if at >= self.parts.shelves.len() {
+            return Err(Refused::NotHeld);
+        }
+        self.parts.shelves[at].update(handle.pointer, handle.generation, from, bytes, change)
+    }
+
+    /// Drops an object. From then on its handle is refused, until its pointer was given 65,536 times more. Refused [`Refused::NotHeld`] alone, exactly where the worker
+    /// hasn't got the object; nothing has changed then.
+    pub fn drop_object(&mut self, handle: Handle) -> Result<(), Refused>
+        ensures dropped { OnOk result ((has self.old handle ≡ true) × Changes handle None self.old self.new × NextGeneration handle self.old self.new) }
+        ensures refused { IfErr result (λ why. (why ≡ NotHeld) × (at self.old handle ≡ None) × (self.new ≡ self.old)) }
+    {
+        let at = handle.heap as usize;
+        if at >= self.parts.shelves.len() {
+            return Err(Refused::NotHeld);
+        }
+        let was_full = self.parts.shelves[at].is_full();
+        match self.parts.shelves[at].drop_object(handle.pointer, handle.generation) {
+            Ok(()) => {
+                if was_full {
+                    let _ = self.parts.open.push_back(handle.heap);
+                }
+                Ok(())
+            }
+            Err(why) => Err(why),
+        }
+    }
+
+    /// How many bytes an object has, 1 to 4,088; `None` exactly where the worker hasn't got it. Nothing is fetched.
+    #[inline(always)]
+    pub fn len_of(&self, handle: Handle) -> Option<u16>
+        ensures { result ≡ size_of (at self.now handle) }
+    {
+        let at = handle.heap as usize;
+        if at >= self.parts.shelves.len() {
+            return None;
+        }
+        self.parts.shelves[at].len_of(handle.pointer, handle.generation)
+    }
+
+    /// Of which data structure an object is; `None` exactly where the worker hasn't got it. Nothing is fetched.
+    pub fn structure_of(&self, handle: Handle) -> Option<u8>
+        ensures { result ≡ structure_of (at self.now handle) }
+    {
+        let at = handle.heap as usize;
+        if at >= self.parts.shelves.len() {
+            return None;
+        }
+        self.parts.shelves[at].structure_of(handle.pointer, handle.generation)
+    }
+
+    /// Whether the worker has an object. Nothing is fetched.
+    pub fn holds(&self, handle: Handle) -> bool
+        ensures { result ≡ has self.now handle }
+    {
+        let at = handle.heap as usize;
+        if at >= self.parts.shelves.len() {
+            return false;
+        }
+        self.parts.shelves[at].holds(handle.pointer, handle.generation)
+    }
+
+    /// An object has 1 to 4,088 bytes, which are known where the devices are honest. The call does nothing.
+    #[inline(always)]
+    pub fn keeps_law(&self, handle: Handle)
+        ensures well { IsWell self.now.honest (at self.now handle) }
+    {
+        let at = handle.heap as usize;
+        if at < self.parts.shelves.len() {
+            self.parts.shelves[at].keeps_law();
+        }
+    }
+}

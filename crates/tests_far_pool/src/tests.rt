@@ -1,0 +1,7 @@
+//! A pool's calls, by worked values.
+
+mod dealing;
+mod devices;
+mod planning;
+mod readme;
+mod stale;
