@@ -158,22 +158,23 @@ module _ (s : State) (m p : ℕ) (law : Law s) (used : s.used p ≡ true) (far :
 -- ---- owners stay as they are, and so do all cells but p's
 pub record KeepsOwners (p : ℕ) (s t : State) : Type 0 where
   pub scope : t.scope ≡ s.scope
+  pub remembered : t.remembered ≡ s.remembered
   pub used : t.used ≡ s.used
   pub mutators : t.mutators ≡ s.mutators
   pub held : t.held ≡ s.held
   pub cells : (q : ℕ) → q ≢ p → t.cell q ≡ s.cell q
 
 kept : (p : ℕ) (s : State) → KeepsOwners p s s
-kept p s = record { scope = refl; used = refl; mutators = refl; held = refl; cells = λ q ne. refl }
+kept p s = record { scope = refl; remembered = refl; used = refl; mutators = refl; held = refl; cells = λ q ne. refl }
 
 move_keeps : (s : State) (p new len : ℕ) (to : Place) (j : Option ℕ) → KeepsOwners p s (after_move s p new len to j)
-move_keeps s p new len to None = record { scope = refl; used = refl; mutators = refl; held = refl; cells = λ q ne. put_other s.cell p new q ne }
-move_keeps s p new len to (Some j) = record { scope = refl; used = refl; mutators = refl; held = refl; cells = λ q ne. put_other s.cell p new q ne }
+move_keeps s p new len to None = record { scope = refl; remembered = refl; used = refl; mutators = refl; held = refl; cells = λ q ne. put_other s.cell p new q ne }
+move_keeps s p new len to (Some j) = record { scope = refl; remembered = refl; used = refl; mutators = refl; held = refl; cells = λ q ne. put_other s.cell p new q ne }
 
 form_keeps : (s : State) (p new : ℕ) (form : Naming) → KeepsOwners p s (naming_row s p new form).after
-form_keeps s p new Stays = record { scope = refl; used = refl; mutators = refl; held = refl; cells = λ q ne. put_other s.cell p new q ne }
+form_keeps s p new Stays = record { scope = refl; remembered = refl; used = refl; mutators = refl; held = refl; cells = λ q ne. put_other s.cell p new q ne }
 form_keeps s p new (Moves len ds from to) = move_keeps s p new len to (copied_job s p from to)
-form_keeps s p new _ = record { scope = refl; used = refl; mutators = refl; held = refl; cells = λ q ne. put_other s.cell p new q ne }
+form_keeps s p new _ = record { scope = refl; remembered = refl; used = refl; mutators = refl; held = refl; cells = λ q ne. put_other s.cell p new q ne }
 
 naming_keeps : (s : State) (p new : ℕ) (o : Option Naming) → KeepsOwners p s (after_naming s p new o)
 naming_keeps s p new None = kept p s
@@ -185,7 +186,7 @@ name_keeps s p old new = cond_both (s.cell p == old) (after_naming s p new (nami
 written_keeps : (s : State) (p : ℕ) (dirty : Bool) (len ds : ℕ) (place : Place) (row : ℕ → ℕ) → KeepsOwners p s (after (with_written_span s p len ds place row) (Name p (s.cell p) (near_word dirty len ds place)))
 written_keeps s p dirty len ds place row =
     let k = name_keeps (with_written_span s p len ds place row) p (s.cell p) (near_word dirty len ds place) in
-    record { scope = k.scope; used = k.used; mutators = k.mutators; held = k.held; cells = k.cells }
+    record { scope = k.scope; remembered = k.remembered; used = k.used; mutators = k.mutators; held = k.held; cells = k.cells }
 
 pub moved_keeps : (s : State) (p : ℕ) (place : Place) (o : Option PtrWord) → KeepsOwners p s (moved_of s p place o)
 moved_keeps s p place (Some (Near len ds from marks)) = written_keeps s p marks.dirty len ds place (data_at s.word from)
@@ -209,12 +210,13 @@ come_keeps : (s : State) (p : ℕ) → KeepsOwners p s (come s p)
 come_keeps s p = come_keeps_of s p (comes_to s p) (read_of (s.cell p))
 
 pub asked_keeps : (s : State) (m p : ℕ) (o : Option PtrWord) → KeepsOwners p s (sought_of s m p o)
-asked_keeps s m p (Some (Near len ds place marks)) = record { scope = refl; used = refl; mutators = refl; held = refl; cells = λ q ne. put_other s.cell p _ q ne }
+asked_keeps s m p (Some (Near len ds place marks)) = record { scope = refl; remembered = refl; used = refl; mutators = refl; held = refl; cells = λ q ne. put_other s.cell p _ q ne }
 asked_keeps s m p _ = kept p s
 
 pub keeps_both : (p : ℕ) (s t u : State) → KeepsOwners p s t → KeepsOwners p t u → KeepsOwners p s u
 keeps_both p s t u a b = record {
   scope = b.scope ∙ a.scope;
+  remembered = b.remembered ∙ a.remembered;
   used = b.used ∙ a.used;
   mutators = b.mutators ∙ a.mutators;
   held = b.held ∙ a.held;

@@ -1,3 +1,4 @@
+pub mod Accessed
 pub mod Ageing
 pub mod ByAge
 pub mod Blanks

@@ -1,3 +1,4 @@
+pub mod Accesses
 pub mod Begins
 pub mod Bits
 pub mod Bounds

@@ -156,7 +156,7 @@ module _ (s : State) (law : Law s) (l at count : ℕ) (log : l < s.logs) (unseal
   zeros_end = puts_end (λ _. 0) (λ _ _. omega arith)
 
 -- ---- words got from one log and put past the tail of another
-one_made : (u : State) (e : Event) → Legal u e → (step_of u e).0 ≡ after u e
+pub one_made : (u : State) (e : Event) → Legal u e → (step_of u e).0 ≡ after u e
 one_made u e legal = ap (λ (x : State × Reply). x.0) (ap (λ b. cond b (after u e, answer u e) (u, Refused)) (is_test u e legal))
 
 module _ (l m : ℕ) where

@@ -1,3 +1,4 @@
+pub mod Accesses
 pub mod Adopt
 pub mod Advance
 pub mod Ask

@@ -7,6 +7,7 @@ ghost use Rattle.far_core.specs.state.Law.{Law};
 ghost use Rattle.far_core.specs.state.Memory.{state_of};
 ghost use Rattle.far_core.specs.state.Stored.{RowsAre};
 
+mod accesses;
 mod calls;
 pub mod laws;
 mod observing;

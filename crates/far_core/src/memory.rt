@@ -5,6 +5,7 @@ ghost use Rattle.std.specs.Vec.{vec_len};
 ghost use Rattle.far_core.specs.state.Stored.{StoredEnds};
 ghost use Rattle.far_word.specs.declared.sizes.TheConstants.{CELLS, LOG_WORDS, MOST_LOGS, MOST_MUTATORS};
 
+mod accesses;
 pub(crate) mod bits;
 mod book;
 mod copies;

@@ -1,3 +1,4 @@
+pub mod Accessed
 pub mod Ageing
 pub mod Asking
 pub mod Auditing

@@ -17,4 +17,6 @@ pub begins_settled : (s : State) (shape : Shape) (honest : Bool) → s ≡ witho
 begins_settled s shape honest e eight = record {
   mutators = ap (λ (x : State). x.mutators) e ∙ eight;
   named = λ p busy. absurd (busy (ap (λ (x : State). x.cell p) e));
+  closed = λ m. ap (λ (x : State). x.scope m) e;
+  fresh = λ m. ap (λ (x : State). x.remembered m) e;
 }

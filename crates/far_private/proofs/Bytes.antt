@@ -1,5 +1,5 @@
 -- The bytes of an object: read, and written.
-use Rattle.std.proofs.Common.{◌≡◌, ℕ, zero, suc, ◌+◌, ◌/◌, ◌<◌, ◌≤◌, ◌^◌, Bool, true, false, refl, sym, ap, subst, ◌∙◌, arith, Option, Some, None, List, length}
+use Rattle.std.proofs.Common.{[], ◌∷◌, ◌≡◌, ℕ, zero, suc, ◌+◌, ◌/◌, ◌<◌, ◌≤◌, ◌^◌, Bool, true, false, refl, sym, ap, subst, ◌∙◌, arith, Option, Some, None, List, length}
 use Rattle.std.specs.Prelude.{IfSome, IsSome, slice_range}
 use Rattle.std.specs.Option.{option_map}
 use Rattle.std.proofs.lemmas.Bool.{cond_both}
@@ -9,12 +9,12 @@ use Rattle.far_word.specs.declared.sizes.TheConstants.{CELLS, LONGEST}
 use Rattle.far_word.specs.Bytes.{packed_word}
 use Rattle.far_word.specs.Pointer.{read_of}
 use Rattle.far_core.specs.declared.event.Event.{Event}
-use Rattle.far_core.specs.declared.event.Event.TheVariants.{Store}
+use Rattle.far_core.specs.declared.event.Event.TheVariants.{Soil, Store}
 use Rattle.far_core.specs.declared.event.Reply.{Reply}
-use Rattle.far_core.specs.events.Legal.{HoldsObject}
+use Rattle.far_core.specs.events.Legal.{HoldsObject, Legal}
 use Rattle.far_core.specs.events.Ranges.{AllLegal, after_events, stores}
 use Rattle.far_core.specs.events.Soil.{after_soil}
-use Rattle.far_core.specs.events.Step.{data_len, data_word, is_legal, step_of}
+use Rattle.far_core.specs.events.Step.{after, data_len, data_word, is_legal, step_of}
 use Rattle.far_core.specs.events.Written.{written_words}
 use Rattle.far_core.specs.state.Law.{Law}
 use Rattle.far_core.specs.state.State.{State, put}
@@ -23,21 +23,20 @@ use Rattle.far_core.specs.world.World.{Object as Thing}
 use Rattle.far_core.specs.world.WorldOf.{world_of}
 use Rattle.far_core.proofs.Bounds.{some_of}
 use Rattle.far_core.proofs.Cells.{IsHeld, held_near}
+use Rattle.far_core.proofs.Owing.{is_test}
 use Rattle.far_core.proofs.Put.{put_both, put_other, put_same}
 use Rattle.far_alone.specs.EventRows.{AllSucceed}
 use Rattle.far_alone.specs.Events.{first_word, store_events, words_touched}
 use Rattle.far_alone.specs.Objects.{data_of, object_len, with_range}
-use Rattle.far_alone.proofs.AloneRuns.{over_all, stores_run}
+use Rattle.far_alone.proofs.AloneRuns.{Same, over_all, quiet_run, stores_run}
 use Rattle.far_alone.proofs.AloneStates.{data_small, length-data, object_used, object_viewed}
 use Rattle.far_alone.proofs.Leading.{legal_made}
+use Rattle.far_alone.proofs.MadeLemmas.{legal_step}
 use Rattle.far_alone.proofs.Soiling.{soil_bytes, soil_law, soil_len}
 use Rattle.far_alone.proofs.Spliced.{AreBytes, length-with_range, packed_wide, with_range_bytes}
-use Rattle.far_private.specs.Objects.{Object, Objects, Settled, bytes_in, bytes_of, known, len_in, len_of, objects_of, rewritten, seen, with_written}
-use Rattle.far_private.specs.Steps.{Keeps}
-use Rattle.far_private.proofs.Keeping.{settled_on}
+use Rattle.far_private.specs.Objects.{Object, Objects, bytes_in, bytes_of, known, len_in, len_of, objects_of, rewritten, seen, with_written}
 use Rattle.far_alone.proofs.AloneBytes.{over_with_range}
 use Rattle.far_alone.proofs.Storing.{stores_made}
-use Rattle.far_private.proofs.OwnerEvents.{soil_keeps, soil_same}
 
 -- ---- an object that is held
 module _ (t : State) (law : Law t) (p : ℕ) (held : IsSome (t.held p)) where
@@ -93,6 +92,10 @@ stored_all s m p first (suc n) new =
     let a = stored_one s m p first (packed_word new first) in
     let b = stored_all (step_of s (Store m p first (packed_word new first))).0 m p (first + 1) n new in
     record { mutators = b.mutators ∙ a.mutators; used = b.used ∙ a.used; cell = b.cell ∙ a.cell; honest = b.honest ∙ a.honest }
+
+-- a mark that its owner sets changes no object
+soil_same : (s : State) (m p : ℕ) → Law s → Legal s (Soil m p) → (world_of (after s (Soil m p))).object ≡ (world_of s).object
+soil_same s m p law legal = (subst (λ (t : State). Same (world_of s) (world_of t)) (ap (λ (x : State × Reply). x.0) (legal_step s (Soil m p) (is_test s (Soil m p) legal))) (quiet_run s (Soil m p ∷ []) law (tt, tt)).0).0
 
 -- ---- a write
 module _ (t : State) (law : Law t) (p from count : ℕ) (new : List ℕ) (held : IsSome (t.held p)) (some : 0 < count) (long : length new ≡ count) (inside : from + count ≤ data_len t p) (most : from + count ≤ LONGEST) (small : AreBytes new) where
@@ -191,26 +194,3 @@ module _ (t : State) (law : Law t) (p from count : ℕ) (new : List ℕ) (held :
     written_objects v e = ap objects_of e
         ∙ ap (λ (b : Bool). record { honest = b; object = λ q. seen b ((world_of u).object q) }) (stored_all soiled (p / CELLS) p (first_word from) (words_touched from count) changed).honest
         ∙ ap (λ (f : ℕ → Option Object). record { honest = t.honest; object = f }) (fun_ext seen_then)
-
-    pub written_settled : (v : State) → v ≡ u → Settled t → Settled v
-    written_settled v e settled = subst Settled (sym e)
-        (let all = stored_all soiled (p / CELLS) p (first_word from) (words_touched from count) changed in
-        let kept = soil_keeps t (p / CELLS) p law (refl, held) in
-        record {
-          mutators = all.mutators ∙ settled.mutators;
-          named = λ q busy. ap (λ (f : ℕ → Bool). f q) all.used ∙ settled.named q (λ z. busy (ap (λ (f : ℕ → ℕ). f q) all.cell ∙ kept.named q z));
-        })
-
--- ---- a write, once its object is held
-module _ (s t : State) (keeps : Keeps s t) (settled : Settled s) (law : Law t) (p from count : ℕ) (new : List ℕ) (held : IsSome (t.held p)) (some : 0 < count) (long : length new ≡ count)
-    (inside : from + count ≤ len_in (objects_of s) p) (most : from + count ≤ LONGEST) (small : AreBytes new) where
-  pub fits_then : from + count ≤ data_len t p
-  fits_then = subst (λ n. from + count ≤ n) (ap (λ (o : Objects). len_in o p) (sym keeps.objects) ∙ held_len t law p held) inside
-
-  pub wrote : (u : State) → u ≡ after_events (after_soil t p) (store_events (p / CELLS) p (first_word from) (words_touched from count) (with_range (data_of t p) from new)) →
-      AllSucceed (after_soil t p) (store_events (p / CELLS) p (first_word from) (words_touched from count) (with_range (data_of t p) from new)) →
-      Settled u × (objects_of u ≡ with_written p from new (objects_of s))
-  wrote u is ok = (
-    written_settled t law p from count new held some long fits_then most small ok u is (settled_on s t settled keeps),
-    written_objects t law p from count new held some long fits_then most small ok u is ∙ ap (with_written p from new) keeps.objects,
-  )

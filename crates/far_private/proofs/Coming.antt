@@ -1,7 +1,7 @@
 -- An object comes to where it may be read and written.
 use Rattle.std.proofs.Common.{◌≡◌, ◌≢◌, ℕ, ◌*◌, ◌/◌, ◌<◌, true, false, cond, refl, sym, ap, subst, ◌∙◌, Bool, Option, Some, None, length, List, Result, Err}
 use Rattle.std.specs.Prelude.{IfSome, IsSome}
-use Rattle.std.proofs.lemmas.Bool.{cond_both, not-true, false≢true, true≢false}
+use Rattle.std.proofs.lemmas.Bool.{cond_both, not-true, true≢false}
 use Rattle.far_word.specs.declared.mark.Mark.TheVariants.{Moved}
 use Rattle.far_word.specs.declared.pointer.Place.{Place}
 use Rattle.far_word.specs.declared.pointer.PtrWord.{PtrWord}
@@ -14,10 +14,9 @@ use Rattle.far_word.specs.Pointer.{read_of}
 use Rattle.far_word.specs.Sizes.{size_of, words_for}
 use Rattle.far_core.specs.declared.event.Event.TheVariants.{Ask}
 use Rattle.far_core.specs.events.Copies.{Alike}
-use Rattle.far_core.specs.events.Legal.{Legal}
 use Rattle.far_core.specs.events.Naming.{unmarked}
 use Rattle.far_core.specs.events.Pin.{place_to_view}
-use Rattle.far_core.specs.events.Step.{after, is_opened}
+use Rattle.far_core.specs.events.Step.{after}
 use Rattle.far_core.specs.state.Law.{Law, IsStored, in_use, is_dirty}
 use Rattle.far_core.specs.state.Room.{room}
 use Rattle.far_core.specs.state.State.{State}
@@ -38,44 +37,34 @@ use Rattle.far_book.specs.book.Fetching.{IsFetched, RefusesFetch, far_len, room_
 use Rattle.far_book.proofs.region.MovesReached.{moving, staying}
 use Rattle.far_book.proofs.region.ReachingFar.{fetching}
 use Rattle.far_alone.specs.Dereference.{says_near}
-use Rattle.far_alone.proofs.Bringing.{KeepsOwners, SaysFar, SaysNear, asked_quiet, far_is, fetched_keeps, may_ask, moved_keeps, near_is, stayed_keeps}
+use Rattle.far_alone.proofs.Bringing.{KeepsOwners, SaysFar, SaysNear, far_is, fetched_keeps, moved_keeps, near_is, stayed_keeps}
 use Rattle.far_private.specs.Causes.{IsCrowded, StaysFar, WhyFar}
-use Rattle.far_private.specs.Objects.{objects_of, seen}
-use Rattle.far_private.specs.Steps.{Aside}
+use Rattle.far_private.specs.Objects.{Settled, objects_of, seen}
+use Rattle.far_private.specs.Steps.{Keeps}
 use Rattle.far_private.proofs.Keeping.{honest_as, honest_by, keeps_both, keeps_none, same_objects, same_world}
-use Rattle.far_private.proofs.OwnerEvents.{ask_keeps}
+use Rattle.far_private.proofs.Resting.{ask_keeps, ask_legal}
 
 -- ---- a step that leaves owners, and gives one object another home
-aside_both : (s t u : State) → Aside s t → Aside t u → Aside s u
-aside_both s t u a b = record { keeps = keeps_both s t u a.keeps b.keeps; scope = b.scope ∙ a.scope; held = b.held ∙ a.held }
-
 named_but : (s t : State) (p : ℕ) → s.cell p ≢ 0 → ((q : ℕ) → q ≢ p → t.cell q ≡ s.cell q) → (q : ℕ) → s.cell q ≡ 0 → t.cell q ≡ 0
 named_but s t p busy cells q e = cells q (λ at. busy (ap s.cell (sym at) ∙ e)) ∙ e
 
-aside_by : (s t : State) (p : ℕ) → s.cell p ≢ 0 → KeepsOwners p s t → objects_of t ≡ objects_of s → Aside s t
-aside_by s t p busy k same = record {
-  keeps = record { mutators = k.mutators; used = k.used; named = named_but s t p busy k.cells; objects = same };
-  scope = k.scope;
-  held = k.held;
-}
+keeps_by : (s t : State) (p : ℕ) → s.cell p ≢ 0 → KeepsOwners p s t → objects_of t ≡ objects_of s → Keeps s t
+keeps_by s t p busy k same = record { mutators = k.mutators; used = k.used; named = named_but s t p busy k.cells; objects = same; scope = k.scope; remembered = k.remembered }
 
 -- a word without marks but DIRTY lets a view rest where it says
 rests_in : (o : Option PtrWord) (len ds : ℕ) (place : Place) (dirty : Bool) → o ≡ Some (Near len ds place (unmarked dirty)) → IsSome (place_to_view o)
 rests_in o len ds place dirty e = subst (λ x. IsSome (place_to_view x)) (sym e) refl
 
 -- ---- a near object
-module _ (s : State) (m p : ℕ) (law : Law s) (opened : is_opened s m ≡ true) (own : p / CELLS ≡ m) (used : s.used p ≡ true) (unheld : s.held p ≡ None) (near : says_near (read_of (s.cell p)) ≡ true) where
+module _ (s : State) (p : ℕ) (law : Law s) (settled : Settled s) (used : s.used p ≡ true) (near : says_near (read_of (s.cell p)) ≡ true) where
   said : SaysNear (read_of (s.cell p))
   said = near_is (read_of (s.cell p)) near
 
   abbrev asks : State
-  asks = after s (Ask m p Moved)
-
-  legal : Legal s (Ask m p Moved)
-  legal = may_ask s m p law opened own used unheld near
+  asks = after s (Ask (p / CELLS) p Moved)
 
   asks_law : Law asks
-  asks_law = keeps s (Ask m p Moved) law tt legal
+  asks_law = keeps s (Ask (p / CELLS) p Moved) law tt (ask_legal s law settled p used)
 
   asked_read : read_of (asks.cell p) ≡ Some (Near said.len said.ds said.place (marks_with Moved said.marks))
   asked_read = ap read_of (put_same s.cell p _ p refl) ∙ (read_mark Moved (s.cell p) refl (law.cells.cell_read p).0 (law.views.used_cell p used)).0 ∙ ap (map_mark Moved) said.is
@@ -87,23 +76,23 @@ module _ (s : State) (m p : ℕ) (law : Law s) (opened : is_opened s m ≡ true)
   asks_busy = nonzero asks asks_law p used
 
   -- it goes to another log
-  goes : (place : Place) → said.marks.evac ≡ true → goal asks p ≡ Some place → Aside asks (moved asks p place)
+  goes : (place : Place) → said.marks.evac ≡ true → goal asks p ≡ Some place → Keeps asks (moved asks p place)
   goes place evac found =
       let there : room asks (size_of said.len) false ≡ Some place = sym (ap (goal_of asks) asked_read ∙ ap (λ b. cond b (room asks (size_of said.len) false) (Some said.place)) evac) ∙ found in
       let way = moving asks p said.len said.ds said.place place (marks_with Moved said.marks) asks_law asked_read refl kept evac there in
       let world : Moves (world_of asks) p place.log (world_of (moved asks p place)) = way.2 in
-      aside_by asks (moved asks p place) p asks_busy (moved_keeps asks p place (read_of (asks.cell p)))
+      keeps_by asks (moved asks p place) p asks_busy (moved_keeps asks p place (read_of (asks.cell p)))
       (same_objects asks (moved asks p place) (honest_as asks (moved asks p place) (ap (λ (w : World). w.honest) world.moved.4)) (λ q.
       ap (λ (w : World). seen asks.honest (w.object q)) world.moved.4
       ∙ put_both (λ x. seen asks.honest x ≡ seen asks.honest ((world_of asks).object q)) (world_of asks).object p _ q
       (λ at. sym (ap (seen asks.honest) (ap (world_of asks).object at ∙ world.moved.2))) (λ _. refl)))
 
   -- or stays
-  rests : said.marks.evac ≡ false → Aside asks (stayed asks p)
+  rests : said.marks.evac ≡ false → Keeps asks (stayed asks p)
   rests evac =
       let way = staying asks p said.len said.ds said.place (marks_with Moved said.marks) asks_law asked_read refl kept evac in
       let world : Unmarks (world_of asks) p (world_of (stayed asks p)) = way.2 in
-      aside_by asks (stayed asks p) p asks_busy (stayed_keeps asks p (read_of (asks.cell p)))
+      keeps_by asks (stayed asks p) p asks_busy (stayed_keeps asks p (read_of (asks.cell p)))
       (same_world asks (stayed asks p) (honest_as asks (stayed asks p) (ap (λ (w : World). w.honest) world)) (ap (λ (w : World). w.object) world))
 
   -- a view may rest there then
@@ -121,8 +110,8 @@ module _ (s : State) (m p : ℕ) (law : Law s) (opened : is_opened s m ≡ true)
   evac_is : has_evac (read_of (asks.cell p)) ≡ said.marks.evac
   evac_is = ap has_evac asked_read
 
-  comes : (place : Place) → goal asks p ≡ Some place → Aside asks (moved_now asks p place)
-  comes place found = cond_both (has_evac (read_of (asks.cell p))) (moved asks p place) (stayed asks p) (Aside asks)
+  comes : (place : Place) → goal asks p ≡ Some place → Keeps asks (moved_now asks p place)
+  comes place found = cond_both (has_evac (read_of (asks.cell p))) (moved asks p place) (stayed asks p) (Keeps asks)
       (λ e. goes place (sym evac_is ∙ e) found) (λ e. rests (sym evac_is ∙ e))
 
   comes_rests : (place : Place) → goal asks p ≡ Some place → IsSome (place_to_view (read_of ((moved_now asks p place).cell p)))
@@ -145,22 +134,22 @@ module _ (s : State) (m p : ℕ) (law : Law s) (opened : is_opened s m ≡ true)
   }
 
   -- as the book answers it
-  pub near_comes : (v t : State) (place : Place) → v ≡ asks → goal v p ≡ Some place → t ≡ moved_now v p place → Aside s t
+  pub near_comes : (v t : State) (place : Place) → v ≡ asks → goal v p ≡ Some place → t ≡ moved_now v p place → Keeps s t
   near_comes v t place is found done =
-      subst (Aside s) (sym (done ∙ ap (λ (x : State). moved_now x p place) is))
-      (aside_both s asks (moved_now asks p place) (ask_keeps s m p law legal) (comes place (ap (λ (x : State). goal x p) (sym is) ∙ found)))
+      subst (Keeps s) (sym (done ∙ ap (λ (x : State). moved_now x p place) is))
+      (keeps_both s asks (moved_now asks p place) (ask_keeps s law settled p used) (comes place (ap (λ (x : State). goal x p) (sym is) ∙ found)))
 
-  pub near_told : (v t : State) (o : Option Place) (place : Place) → o ≡ Some place → v ≡ asks → IfSome o (λ x. goal v p ≡ Some x) → IfSome o (λ x. t ≡ moved_now v p x) → Aside s t
+  pub near_told : (v t : State) (o : Option Place) (place : Place) → o ≡ Some place → v ≡ asks → IfSome o (λ x. goal v p ≡ Some x) → IfSome o (λ x. t ≡ moved_now v p x) → Keeps s t
   near_told v t o place e is found done = near_comes v t place is (subst (λ y. IfSome y (λ x. goal v p ≡ Some x)) e found) (subst (λ y. IfSome y (λ x. t ≡ moved_now v p x)) e done)
 
   pub near_quiet : (v : State) → v ≡ asks → IsQuietNear v p
-  near_quiet v is = subst (λ (x : State). IsQuietNear x p) (sym is) (asked_quiet s m p law opened own used unheld near)
+  near_quiet v is = subst (λ (x : State). IsQuietNear x p) (sym is) record { len = said.len; ds = said.ds; place = said.place; marks = marks_with Moved said.marks; near = asked_read; quiet = refl }
 
   pub near_inside : (v : State) → v ≡ asks → p < CELLS * v.mutators
   near_inside v is = subst (λ (x : State). p < CELLS * x.mutators) (sym is) (law.cells.cell_range p (nonzero s law p used))
 
-  pub near_stays : (v t : State) → v ≡ asks → t ≡ v → Aside s t
-  near_stays v t is same = subst (Aside s) (sym (same ∙ is)) (ask_keeps s m p law legal)
+  pub near_stays : (v t : State) → v ≡ asks → t ≡ v → Keeps s t
+  near_stays v t is same = subst (Keeps s) (sym (same ∙ is)) (ask_keeps s law settled p used)
 
 -- ---- a far one
 seen_as : (b : Bool) (o u : Thing) → u.ds ≡ o.ds → length u.bytes ≡ length o.bytes → (b ≡ true → u.bytes ≡ o.bytes) → seen b (Some u) ≡ seen b (Some o)
@@ -175,7 +164,7 @@ module _ (s : State) (p : ℕ) (law : Law s) (used : s.used p ≡ true) (far : s
   alive = not-true told.marks.dropped (sym (ap in_use told.is) ∙ law.views.used_cell p used)
 
   pub far_comes : (t : State) (place : Place) (row : ℕ → ℕ) → room_for s p ≡ Some place → IsStored row (far_len (read_of (s.cell p))) → (s.honest ≡ true → Alike row (s.stored p) (words_for (far_len (read_of (s.cell p))))) →
-      t ≡ fetched s p place row → Aside s t
+      t ≡ fetched s p place row → Keeps s t
   far_comes t place row found padded same is =
       let long : far_len (read_of (s.cell p)) ≡ told.len = ap far_len told.is in
       let way = fetching s p told.len told.ds told.marks place row law told.is alive (ap (λ n. room s (size_of n) true) (sym long) ∙ found) (subst (IsStored row) long padded)
@@ -188,7 +177,7 @@ module _ (s : State) (p : ℕ) (law : Law s) (used : s.used p ≡ true) (far : s
       ap (λ (w : World). seen s.honest (w.object q)) after
       ∙ put_both (λ x. seen s.honest x ≡ seen s.honest ((world_of s).object q)) (world_of s).object p (Some u) q
       (λ at. seen_as s.honest o u refl count (honest_by s honest) ∙ sym (ap (seen s.honest) (ap (world_of s).object at ∙ there))) (λ _. refl)) in
-      subst (Aside s) (sym is) (aside_by s next p (nonzero s law p used) (fetched_keeps s p place row (read_of (s.cell p))) as_seen)
+      subst (Keeps s) (sym is) (keeps_by s next p (nonzero s law p used) (fetched_keeps s p place row (read_of (s.cell p))) as_seen)
 
   -- it says near then
   pub far_near : (t : State) (place : Place) (row : ℕ → ℕ) → room_for s p ≡ Some place → IsStored row (far_len (read_of (s.cell p))) → (s.honest ≡ true → Alike row (s.stored p) (words_for (far_len (read_of (s.cell p))))) →
@@ -209,11 +198,11 @@ module _ (s : State) (p : ℕ) (law : Law s) (used : s.used p ≡ true) (far : s
       subst (λ (x : State). IsSome (place_to_view (read_of (x.cell p)))) (sym is) (rests_in (read_of ((fetched s p place row).cell p)) told.len told.ds place false way.3.cell)
 
   -- as the book answers it
-  pub fetch_comes : (t : State) (place : Place) → room_for s p ≡ Some place → IsFetched (Unit {0}) s.honest s t p place → Aside s t × (says_near (read_of (t.cell p)) ≡ true) × IsSome (place_to_view (read_of (t.cell p)))
+  pub fetch_comes : (t : State) (place : Place) → room_for s p ≡ Some place → IsFetched (Unit {0}) s.honest s t p place → Keeps s t × (says_near (read_of (t.cell p)) ≡ true) × IsSome (place_to_view (read_of (t.cell p)))
   fetch_comes t place found f = (far_comes t place f.row found f.padded f.stored (f.exact tt), far_near t place f.row found f.padded f.stored (f.exact tt), far_rests t place f.row found f.padded f.stored (f.exact tt))
 
   pub fetch_told : (t : State) (o : Option Place) (place : Place) → o ≡ Some place → IfSome o (λ x. room_for s p ≡ Some x) → IfSome o (λ x. IsFetched (Unit {0}) s.honest s t p x) →
-      Aside s t × (says_near (read_of (t.cell p)) ≡ true) × IsSome (place_to_view (read_of (t.cell p)))
+      Keeps s t × (says_near (read_of (t.cell p)) ≡ true) × IsSome (place_to_view (read_of (t.cell p)))
   fetch_told t o place e found f = fetch_comes t place (subst (λ y. IfSome y (λ x. room_for s p ≡ Some x)) e found) (subst (λ y. IfSome y (λ x. IsFetched (Unit {0}) s.honest s t p x)) e f)
 
 -- ---- or stays away
@@ -232,8 +221,5 @@ module _ {D : Type 0} (reads : D → ℕ → Result (List ℕ) DeviceFault → D
   pub far_stays : (t : State) (why : Refused) → says_near (read_of (s.cell p)) ≡ false → RefusesFetch why (room_for s p) honest → AsksToFetch D reads lets_go still s t p (Err why) before after → t ≡ s → StaysFar D reads t p after why
   far_stays t why far refused asked same = subst (λ (x : State). StaysFar D reads x p after why) (sym same) record { far = far; cause = why_far t why refused asked }
 
-pub aside_none : (s : State) → Aside s s
-aside_none s = record { keeps = keeps_none s; scope = refl; held = refl }
-
-pub aside_same : (s t : State) → t ≡ s → Aside s t
-aside_same s t e = subst (Aside s) (sym e) (aside_none s)
+pub keeps_same : (s t : State) → t ≡ s → Keeps s t
+keeps_same s t e = subst (Keeps s) (sym e) (keeps_none s)

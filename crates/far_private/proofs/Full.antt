@@ -1,11 +1,9 @@
 -- Where there is no room.
-use Rattle.std.proofs.Common.{◌≡◌, ℕ, ◌+◌, ◌<◌, ◌≤◌, nat_le, arith, refl, Bool, true, false, Option, Some, None, List, [], ◌∷◌, length}
+use Rattle.std.proofs.Common.{◌≡◌, ℕ, ◌+◌, ◌<◌, ◌≤◌, nat_le, arith, refl, Bool, true, false, Some, None, List, [], ◌∷◌, length}
 use Rattle.std.specs.Prelude.{if◌then◌else◌}
 use Rattle.std.proofs.lemmas.Bool.Decides.{nat_tests}
-use Rattle.far_word.specs.declared.pointer.Place.{Place}
 use Rattle.far_word.specs.declared.sizes.TheConstants.{LOG_WORDS}
 use Rattle.far_core.specs.state.Room.{free_logs, lowest}
-use Rattle.far_core.specs.state.State.{State}
 use Rattle.far_private.specs.Causes.{IsFullFor, NoRoomIsFull}
 
 none_lowest : (logs : List ℕ) → lowest true logs ≡ None → length logs ≤ 1

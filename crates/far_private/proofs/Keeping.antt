@@ -27,7 +27,7 @@ pub same_world : (s t : State) → t.honest ≡ s.honest → (world_of t).object
 same_world s t h e = same_objects s t h (λ p. ap (λ (f : ℕ → Option Thing). seen s.honest (f p)) e)
 
 pub keeps_none : (s : State) → Keeps s s
-keeps_none s = record { mutators = refl; used = refl; named = λ p e. e; objects = refl }
+keeps_none s = record { mutators = refl; used = refl; named = λ p e. e; objects = refl; scope = refl; remembered = refl }
 
 pub keeps_both : (s t u : State) → Keeps s t → Keeps t u → Keeps s u
 keeps_both s t u a b = record {
@@ -35,10 +35,17 @@ keeps_both s t u a b = record {
   used = b.used ∙ a.used;
   named = λ p e. b.named p (a.named p e);
   objects = b.objects ∙ a.objects;
+  scope = b.scope ∙ a.scope;
+  remembered = b.remembered ∙ a.remembered;
 }
 
 pub settled_on : (s t : State) → Settled s → Keeps s t → Settled t
-settled_on s t h k = record { mutators = k.mutators ∙ h.mutators; named = λ p busy. ap (λ (f : ℕ → Bool). f p) k.used ∙ h.named p (λ e. busy (k.named p e)) }
+settled_on s t h k = record {
+  mutators = k.mutators ∙ h.mutators;
+  named = λ p busy. ap (λ (f : ℕ → Bool). f p) k.used ∙ h.named p (λ e. busy (k.named p e));
+  closed = λ m. ap (λ (f : ℕ → ℕ). f m) k.scope ∙ h.closed m;
+  fresh = λ m. ap (λ (f : ℕ → Option ℕ). f m) k.remembered ∙ h.fresh m;
+}
 
 pub used_on : (s t : State) (p : ℕ) → Keeps s t → s.used p ≡ true → t.used p ≡ true
 used_on s t p k h = ap (λ (f : ℕ → Bool). f p) k.used ∙ h
@@ -56,5 +63,7 @@ round_keeps s t named k = record {
   mutators = k.mutators;
   used = k.used;
   named = named;
+  scope = k.scope;
+  remembered = k.remembered;
   objects = same_objects s t k.honest (λ p. seen_anywhere s.honest ((world_of t).object p) ((world_of s).object p) (k.object p));
 }

@@ -5,7 +5,7 @@ use Rattle.far_word.specs.declared.refused.Refused.{Refused}
 use Rattle.far_word.specs.declared.refused.Refused.TheVariants.{Damaged, Device, Memory, NoRoom}
 use Rattle.far_core.specs.state.State.{State}
 use Rattle.far_device.specs.declared.fault.DeviceFault.{DeviceFault}
-use Rattle.far_private.specs.Causes.{IsCrowded, StaysAway, StaysFar, WhyFar}
+use Rattle.far_private.specs.Causes.{StaysAway, StaysFar, WhyFar}
 use Rattle.far_private.specs.Heap.{IsOutside}
 use Rattle.far_private.specs.Objects.{Objects}
 use Rattle.far_private.specs.Steps.{Keeps}

@@ -47,23 +47,26 @@ use Rattle.far_private.specs.FreePointers.{HasFree, IsKept, IsLowest, has}
 use Rattle.far_private.specs.Steps.{Keeps}
 use Rattle.far_private.specs.declared.free_pointers.FreePointers.{FreePointers}
 use Rattle.far_private.proofs.Beginning.{begins_none, begins_settled}
+use Rattle.far_private.proofs.Resting.{unheld_now}
 
 -- ---- what a naming leaves of owners
 record Owns (s t : State) : Type 0 where
   mutators : t.mutators ≡ s.mutators
   used : t.used ≡ s.used
+  scope : t.scope ≡ s.scope
+  remembered : t.remembered ≡ s.remembered
 
 owns_none : (s : State) → Owns s s
-owns_none s = record { mutators = refl; used = refl }
+owns_none s = record { mutators = refl; used = refl; scope = refl; remembered = refl }
 
 move_owns : (s : State) (p new len : ℕ) (to : Place) (j : Option ℕ) → Owns s (after_move s p new len to j)
-move_owns s p new len to None = record { mutators = refl; used = refl }
-move_owns s p new len to (Some j) = record { mutators = refl; used = refl }
+move_owns s p new len to None = record { mutators = refl; used = refl; scope = refl; remembered = refl }
+move_owns s p new len to (Some j) = record { mutators = refl; used = refl; scope = refl; remembered = refl }
 
 form_owns : (s : State) (p new : ℕ) (form : Naming) → Owns s (naming_row s p new form).after
-form_owns s p new Stays = record { mutators = refl; used = refl }
+form_owns s p new Stays = record { mutators = refl; used = refl; scope = refl; remembered = refl }
 form_owns s p new (Moves len ds from to) = move_owns s p new len to (copied_job s p from to)
-form_owns s p new _ = record { mutators = refl; used = refl }
+form_owns s p new _ = record { mutators = refl; used = refl; scope = refl; remembered = refl }
 
 naming_owns : (s : State) (p new : ℕ) (o : Option Naming) → Owns s (after_naming s p new o)
 naming_owns s p new None = owns_none s
@@ -73,7 +76,7 @@ name_owns : (s : State) (p old new : ℕ) → Owns s (after s (Name p old new))
 name_owns s p old new = cond_both (s.cell p == old) (after_naming s p new (naming_of (read_of old) (read_of new))) s (Owns s) (λ _. naming_owns s p new (naming_of (read_of old) (read_of new))) (λ _. owns_none s)
 
 placed_owns : (s : State) (p len ds : ℕ) (place : Place) → Owns s (placed s p len ds place)
-placed_owns s p len ds place = let h = name_owns (with_blank_span s p len ds place) p 0 (near_word true len ds place) in record { mutators = h.mutators; used = h.used }
+placed_owns s p len ds place = let h = name_owns (with_blank_span s p len ds place) p 0 (near_word true len ds place) in record { mutators = h.mutators; used = h.used; scope = h.scope; remembered = h.remembered }
 
 unheld_by : (o : Option Place) → (is_some o ≡ true → ⊥) → o ≡ None
 unheld_by None f = refl
@@ -131,7 +134,13 @@ module _ (s : State) (p len ds : ℕ) (place : Place) (law : Law s) (settled : S
 
   pub new_settled : (u v : State) → v ≡ t → u ≡ after v (Adopt (p / CELLS) p) → Settled u
   new_settled u v e is = subst Settled (sym (is ∙ ap (λ (x : State). after x (Adopt (p / CELLS) p)) e))
-      record { mutators = (placed_owns s p len ds place).mutators ∙ settled.mutators; named = named_then }
+      (let owns = placed_owns s p len ds place in
+      record {
+        mutators = owns.mutators ∙ settled.mutators;
+        named = named_then;
+        closed = λ k. ap (λ (f : ℕ → ℕ). f k) owns.scope ∙ settled.closed k;
+        fresh = λ k. ap (λ (f : ℕ → Option ℕ). f k) owns.remembered ∙ settled.fresh k;
+      })
 
   -- there was none before
   pub was_none : (objects_of s).object p ≡ None
@@ -146,9 +155,12 @@ module _ (s : State) (p len ds : ℕ) (place : Place) (law : Law s) (settled : S
   }
 
 -- ---- an object is dropped
-module _ (s : State) (p : ℕ) (law : Law s) (settled : Settled s) (used : s.used p ≡ true) (unheld : s.held p ≡ None) where
+module _ (s : State) (p : ℕ) (law : Law s) (settled : Settled s) (used : s.used p ≡ true) where
   abbrev m : ℕ
   m = p / CELLS
+
+  unheld : s.held p ≡ None
+  unheld = unheld_now s law settled p used
 
   below : p < CELLS * s.mutators
   below = law.cells.cell_range p (nonzero s law p used)
@@ -200,6 +212,8 @@ module _ (s : State) (p : ℕ) (law : Law s) (settled : Settled s) (used : s.use
       | inl at ↦ absurd (busy (put_same asked.cell p 0 q at))
       | inr ne ↦ (put_other s.used p false q ne ∙ settled.named q (λ z. busy (put_other asked.cell p 0 q ne ∙ put_other s.cell p _ q ne ∙ z)))
     ];
+    closed = settled.closed;
+    fresh = settled.fresh;
   }
 
   pub drop_objects : (u v : State) → v ≡ asked → u ≡ retired v p → objects_of u ≡ without p (objects_of s)

@@ -41,10 +41,12 @@ state_in evac = core_state evac.book.near.core
 abbrev pub objects_in : {D : Type 0} → EvacOf Plain D → Objects
 objects_in evac = objects_of (state_in evac)
 
--- a state between two calls: it has all eight owners, and each pointer that is named is used
+-- a state between two calls: it has all eight owners, each pointer that is named is used, and no owner has a scope or remembers an epoch
 pub record Settled (s : State) : Type 0 where
   pub mutators : s.mutators ≡ 8
   pub named : (p : ℕ) → s.cell p ≢ 0 → s.used p ≡ true
+  pub closed : (m : ℕ) → s.scope m ≡ 0
+  pub fresh : (m : ℕ) → s.remembered m ≡ None
 
 -- a pointer of the heap whose cell is free
 pub record IsFree (s : State) (p : ℕ) : Type 0 where

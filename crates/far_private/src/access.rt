@@ -1,45 +1,88 @@
-//! The bytes of an object that is held.
+//! What owners do to objects: each access is a scope of its own, which is closed again.
 
-ghost use Rattle.std.specs.Prelude.{◌≡◌, ◌+◌, ◌<◌, ◌≤◌, ◌/◌, true, length, IsSome};
-ghost use Rattle.far_word.specs.declared.sizes.TheConstants.{CELLS, LONGEST};
-ghost use Rattle.far_core.specs.events.Ranges.{after_events};
-ghost use Rattle.far_core.specs.events.Soil.{after_soil};
-ghost use Rattle.far_core.specs.events.Step.{data_len};
-ghost use Rattle.far_alone.specs.EventRows.{AllSucceed};
-ghost use Rattle.far_alone.specs.Events.{first_word, store_events, words_touched};
-ghost use Rattle.far_alone.specs.Objects.{data_of, with_range};
-ghost use Rattle.far_private.specs.Objects.{state_in};
+ghost use Rattle.std.specs.Prelude.{◌≡◌, ◌+◌, ◌<◌, ◌≤◌, true, length, IsSome};
+ghost use Rattle.far_word.specs.declared.sizes.TheConstants.{LONGEST};
+ghost use Rattle.far_word.specs.Pointer.{read_of};
+ghost use Rattle.far_core.specs.events.Pin.{place_to_view};
+ghost use Rattle.far_private.specs.Objects.{Settled, len_in, objects_of, state_in, with_written};
+ghost use Rattle.far_private.specs.Steps.{Keeps};
 
-use crate::scopes::core_of;
+use crate::cells::{core_of, is_cold};
 use far_book::Plain;
 use far_device::Device;
 use far_evac::Evac;
 use far_word::CELLS;
 
-// Soils an object that is held, unless its owner has soiled it since its scope was opened.
-fn soil<D: Device + Drop>(evac: &mut Evac<Plain, D>, pointer: u16)
-    requires held { IsSome ((state_in evac.old).held pointer) }
-    ensures state { state_in evac.new ≡ after_soil (state_in evac.old) pointer }
+/// Has a pointer's object HOT, unless it is so.
+#[inline(always)]
+pub(crate) fn warm<D: Device + Drop>(evac: &mut Evac<Plain, D>, pointer: u16)
+    requires settled { Settled (state_in evac.old) }
+    requires used { (state_in evac.old).used pointer ≡ true }
+    ensures { Keeps (state_in evac.old) (state_in evac.new) }
 {
-    if !core_of(evac).is_soiled(pointer) {
-        let _ = evac.soil((pointer / CELLS) as u8, pointer);
+    core_of(evac).keeps_law();
+    if is_cold(core_of(evac).cell(pointer)) {
+        heat(evac, pointer);
     }
 }
 
-/// Writes bytes over a range of an object that is held.
-pub(crate) fn write_held<D: Device + Drop>(
+/// Sets HOT.
+pub(crate) fn heat<D: Device + Drop>(evac: &mut Evac<Plain, D>, pointer: u16)
+    requires settled { Settled (state_in evac.old) }
+    requires used { (state_in evac.old).used pointer ≡ true }
+    ensures { Keeps (state_in evac.old) (state_in evac.new) }
+{
+    evac.heat((pointer / CELLS) as u8, pointer);
+}
+
+/// Takes HOT from an object on which a view may rest.
+pub(crate) fn cool<D: Device + Drop>(evac: &mut Evac<Plain, D>, pointer: u16)
+    requires settled { Settled (state_in evac.old) }
+    requires used { (state_in evac.old).used pointer ≡ true }
+    requires rests { IsSome (place_to_view (read_of ((state_in evac.old).cell pointer))) }
+    ensures { Keeps (state_in evac.old) (state_in evac.new) }
+{
+    evac.cool((pointer / CELLS) as u8, pointer);
+}
+
+/// Writes bytes over a range of an object on which a view may rest. It has HOT then.
+#[inline(always)]
+pub(crate) fn overwrite<D: Device + Drop>(
     evac: &mut Evac<Plain, D>,
     pointer: u16,
     from: u16,
     bytes: &[u8],
 )
-    requires held { IsSome ((state_in evac.old).held pointer) }
+    requires settled { Settled (state_in evac.old) }
+    requires used { (state_in evac.old).used pointer ≡ true }
+    requires rests { IsSome (place_to_view (read_of ((state_in evac.old).cell pointer))) }
     requires some { 0 < length bytes.now }
-    requires inside { from + length bytes.now ≤ data_len (state_in evac.old) pointer }
+    requires inside { from + length bytes.now ≤ len_in (objects_of (state_in evac.old)) pointer }
     requires most { from + length bytes.now ≤ LONGEST }
-    ensures state { state_in evac.new ≡ after_events (after_soil (state_in evac.old) pointer) (store_events (pointer / CELLS) pointer (first_word from) (words_touched from (length bytes.now)) (with_range (data_of (state_in evac.old) pointer) from bytes.now)) }
-    ensures made { AllSucceed (after_soil (state_in evac.old) pointer) (store_events (pointer / CELLS) pointer (first_word from) (words_touched from (length bytes.now)) (with_range (data_of (state_in evac.old) pointer) from bytes.now)) }
+    ensures settled { Settled (state_in evac.new) }
+    ensures written { objects_of (state_in evac.new) ≡ with_written pointer from bytes.now (objects_of (state_in evac.old)) }
+    ensures used { (state_in evac.new).used pointer ≡ true }
+    ensures rests { IsSome (place_to_view (read_of ((state_in evac.new).cell pointer))) }
 {
-    soil(evac, pointer);
-    evac.store_bytes((pointer / CELLS) as u8, pointer, from, bytes);
+    evac.write_over((pointer / CELLS) as u8, pointer, from, bytes);
+}
+
+/// The same, and it has no HOT then.
+pub(crate) fn overwrite_cold<D: Device + Drop>(
+    evac: &mut Evac<Plain, D>,
+    pointer: u16,
+    from: u16,
+    bytes: &[u8],
+)
+    requires settled { Settled (state_in evac.old) }
+    requires used { (state_in evac.old).used pointer ≡ true }
+    requires rests { IsSome (place_to_view (read_of ((state_in evac.old).cell pointer))) }
+    requires some { 0 < length bytes.now }
+    requires inside { from + length bytes.now ≤ len_in (objects_of (state_in evac.old)) pointer }
+    requires most { from + length bytes.now ≤ LONGEST }
+    ensures settled { Settled (state_in evac.new) }
+    ensures written { objects_of (state_in evac.new) ≡ with_written pointer from bytes.now (objects_of (state_in evac.old)) }
+{
+    overwrite(evac, pointer, from, bytes);
+    cool(evac, pointer);
 }

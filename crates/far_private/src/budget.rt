@@ -1,11 +1,11 @@
 //! How many rounds a call makes where there is no room.
 
 ghost use Rattle.std.specs.Prelude.{◌≡◌, ◌<◌, true, false};
-ghost use Rattle.far_private.specs.Objects.{state_in};
+ghost use Rattle.far_private.specs.Objects.{Settled, state_in};
 ghost use Rattle.far_private.specs.Steps.{Keeps};
 
+use crate::cells::core_of;
 use crate::rooms::{Outcome, make_room};
-use crate::scopes::core_of;
 use far_book::Plain;
 use far_device::Device;
 use far_evac::Evac;
@@ -44,8 +44,9 @@ impl Rounds {
         }
     }
 
-    /// Makes one more, if it may bring room. All scopes are closed then.
+    /// Makes one more, if it may bring room.
     pub(crate) fn make<D: Device + Drop>(&mut self, evac: &mut Evac<Plain, D>) -> bool
+        requires settled { Settled (state_in evac.old) }
         ensures fewer { result ≡ true → self.new.left < self.old.left }
         ensures keeps { Keeps (state_in evac.old) (state_in evac.new) }
         ensures none { result ≡ false → evac.new ≡ evac.old }

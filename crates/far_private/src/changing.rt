@@ -4,16 +4,17 @@ ghost use Rattle.std.specs.Prelude.{◌≡◌, ◌<◌, ◌+◌, ◌≤◌, ℕ,
 ghost use Rattle.std.specs.Fn.{FnOnceReturnsAtMut, FnOnceTakesAtMut};
 ghost use Rattle.far_word.specs.declared.refused.Refused.{Refused as Refusal};
 ghost use Rattle.far_word.specs.declared.sizes.TheConstants.{LONGEST};
-ghost use Rattle.far_core.specs.events.Step.{data_len};
+ghost use Rattle.far_word.specs.Pointer.{read_of};
+ghost use Rattle.far_core.specs.events.Pin.{place_to_view};
 ghost use Rattle.far_private.specs.Changes.{Changes};
 ghost use Rattle.far_private.specs.Heap.{IsOutside};
 ghost use Rattle.far_private.specs.Objects.{IsRead, Settled, access_refusal, len_in, objects_of, state_in, with_written};
 ghost use Rattle.far_private.specs.Steps.{Keeps};
 
-use crate::access::write_held;
+use crate::access::overwrite;
+use crate::bringing::bring_to_rest;
 use crate::nearby::copy_near;
 use crate::ranges::reach;
-use crate::rooms::see;
 use far_book::Plain;
 use far_device::Device;
 use far_evac::Evac;
@@ -82,45 +83,27 @@ fn call_once<F: FnOnce(&mut [u8])>(change: F, bytes: &mut [u8])
     change(bytes);
 }
 
-// Copies a range of an object, and has the object held, so that the range may be written.
+// Copies a range of an object, and has the object where the range may be written.
 fn take<D: Device + Drop>(
     evac: &mut Evac<Plain, D>,
     pointer: u16,
     from: u16,
     out: &mut [u8],
 ) -> Result<(), Refused>
+    requires settled { Settled (state_in evac.old) }
     requires used { (state_in evac.old).used pointer ≡ true }
     requires inside { from + length out.old ≤ len_in (objects_of (state_in evac.old)) pointer }
     ensures keeps { Keeps (state_in evac.old) (state_in evac.new) }
-    ensures held { OnOk result (IsSome ((state_in evac.new).held pointer)) }
-    ensures inside { OnOk result (from + length out.old ≤ data_len (state_in evac.new) pointer) }
+    ensures rests { OnOk result (IsSome (place_to_view (read_of ((state_in evac.new).cell pointer)))) }
     ensures read { OnOk result (IsRead (objects_of (state_in evac.old)) pointer from (length out.old) out.new) }
     ensures kept { OnErr result (out.new ≡ out.old) }
     ensures outside { IfErr result (λ why. IsOutside (state_in evac.old).honest why) }
 {
-    match see(evac, pointer) {
+    match bring_to_rest(evac, pointer) {
         Ok(()) => {
             copy_near(evac, pointer, from, out);
             Ok(())
         }
         Err(why) => Err(why),
     }
-}
-
-/// Writes bytes over a range of an object that is held.
-pub(crate) fn overwrite<D: Device + Drop>(
-    evac: &mut Evac<Plain, D>,
-    pointer: u16,
-    from: u16,
-    bytes: &[u8],
-)
-    requires settled { Settled (state_in evac.old) }
-    requires held { IsSome ((state_in evac.old).held pointer) }
-    requires some { 0 < length bytes.now }
-    requires inside { from + length bytes.now ≤ data_len (state_in evac.old) pointer }
-    requires most { from + length bytes.now ≤ LONGEST }
-    ensures settled { Settled (state_in evac.new) }
-    ensures written { objects_of (state_in evac.new) ≡ with_written pointer from bytes.now (objects_of (state_in evac.old)) }
-{
-    write_held(evac, pointer, from, bytes);
 }

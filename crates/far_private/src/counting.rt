@@ -4,7 +4,7 @@ ghost use Rattle.std.specs.Prelude.{◌≡◌, ◌+◌, ◌*◌, ◌<◌, is_som
 ghost use Rattle.std.specs.List.{range_with_len};
 ghost use Rattle.far_private.specs.Objects.{Settled, objects_of, state_in};
 
-use crate::scopes::core_of;
+use crate::cells::core_of;
 use far_book::Plain;
 use far_device::Device;
 use far_evac::Evac;

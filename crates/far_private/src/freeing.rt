@@ -7,7 +7,6 @@ ghost use Rattle.far_private.specs.NoRound.{IsNoRound};
 ghost use Rattle.far_private.specs.Objects.{state_in};
 ghost use Rattle.far_private.specs.Steps.{Keeps};
 
-use crate::rooms::close_all;
 use far_book::Plain;
 use far_device::Device;
 use far_evac::Evac;
@@ -18,8 +17,8 @@ use far_word::Refused;
 /// marked in a turn, and 16 leave in one.
 const TURNS: u64 = 4096;
 
-/// Makes a round of logs that a policy names, at most `most`, and answers how many of them it gave back. All scopes are closed then, and no
-/// round stands.
+/// Makes a round of logs that a policy names, at most `most`, and answers how many of them it gave back. No round stands
+/// then.
 ///
 /// Refused where none begins, in this order: [`Refused::EpochsSpent`] where there is no later epoch, and then nobody asked the policy; and
 /// [`Refused::BadChoice`] as the policy refuses.
@@ -33,7 +32,6 @@ pub(crate) fn free_logs<P: Policy, D: Device + Drop>(
     ensures named { IfOk result (λ _. (rows : List LogRow) × (logs : List ℕ) × P.gives policy.old rows most (Ok logs) policy.new) }
     ensures refused { IfErr result (λ why. IsNoRound P.gives policy.old policy.new most why) }
 {
-    close_all(evac);
     end_round(evac);
     match begin(evac, policy, most) {
         Ok(chosen) => Ok(turn_all(evac, chosen)),

@@ -10,10 +10,10 @@ ghost use Rattle.far_private.specs.Heap.{HeapLaw, IsFull, IsWhyNoAccess, IsWhyNo
 
 mod calls;
 
+use crate::cells::core_of;
 use crate::free_pointers::FreePointers;
 use crate::places::{drop_used, free_pointer, place_new};
 use crate::ranges::{read_range, write_range};
-use crate::scopes::core_of;
 use far_book::{Book, Plain};
 use far_core::{Core, Shape};
 use far_device::Device;

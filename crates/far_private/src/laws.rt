@@ -2,11 +2,12 @@
 
 ghost use Rattle.far_private.specs.Causes.{NoRoomIsFull};
 ghost use Rattle.far_private.specs.HeapLaws.{DroppedIsGone, LastMade, LastWritten, ObjectsApart, ReadsLastWritten, ReadsWereSaid};
-ghost use Rattle.far_private.specs.Laws.{DropLeaves, FetchKeeps, MoveKeeps, PinKeeps, PlaceMakes, ReadTells, RoundKeeps, WriteChanges};
+ghost use Rattle.far_private.specs.Laws.{CoolKeeps, DropLeaves, FetchKeeps, HeatKeeps, MoveKeeps, PlaceMakes, ReadTells, RoundKeeps, WriteChanges};
 
-/// Pins, moves, fetches and rounds change nothing that callers see.
+/// Marks, moves, fetches and rounds change nothing that callers see.
 pub fn steps_keep_objects()
-    ensures pinned { PinKeeps }
+    ensures heated { HeatKeeps }
+    ensures cooled { CoolKeeps }
     ensures round { RoundKeeps }
     ensures moved { MoveKeeps }
     ensures fetched { FetchKeeps }

@@ -4,6 +4,7 @@
 mod access;
 mod bringing;
 mod budget;
+mod cells;
 mod changing;
 mod counting;
 mod free_pointers;
@@ -16,7 +17,6 @@ mod nearby;
 mod places;
 mod ranges;
 mod rooms;
-mod scopes;
 mod staying;
 
 pub use counting::Statistics;

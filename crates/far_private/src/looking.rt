@@ -7,8 +7,8 @@ ghost use Rattle.far_private.specs.Heap.{size_of, structure_of};
 ghost use Rattle.far_private.specs.Looks.{named_structure};
 ghost use Rattle.far_private.specs.Objects.{Settled, objects_of, state_in};
 
+use crate::cells::core_of;
 use crate::ranges::used_len;
-use crate::scopes::core_of;
 use far_book::Plain;
 use far_device::Device;
 use far_evac::Evac;

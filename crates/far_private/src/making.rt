@@ -1,20 +1,17 @@
 //! New objects of bytes that are given.
 
-ghost use Rattle.std.specs.Prelude.{◌≡◌, ◌≤◌, ◌<◌, ◌/◌, true, length, IsSome, IfOk, IfErr, OnErr};
-ghost use Rattle.far_word.specs.declared.sizes.TheConstants.{CELLS, LONGEST};
+ghost use Rattle.std.specs.Prelude.{◌≡◌, ◌≤◌, ◌<◌, length, IfOk, IfErr, OnErr};
+ghost use Rattle.far_word.specs.declared.sizes.TheConstants.{LONGEST};
 ghost use Rattle.far_word.specs.declared.refused.Refused.TheVariants.{NoRoom};
-ghost use Rattle.far_core.specs.events.Step.{is_opened};
 ghost use Rattle.far_private.specs.Looks.{IsFresh, with_made};
 ghost use Rattle.far_private.specs.Objects.{Settled, len_in, objects_of, state_in, with_written};
-ghost use Rattle.far_private.specs.Steps.{Keeps};
 
-use crate::changing::overwrite;
+use crate::access::overwrite_cold;
 use crate::places::place_new;
-use crate::scopes::{be_open, core_of};
 use far_book::Plain;
 use far_device::Device;
 use far_evac::Evac;
-use far_word::{CELLS, Refused};
+use far_word::Refused;
 
 /// Places a new object of these bytes, making rounds where there is no room for it. Nothing has changed where it is refused.
 pub(crate) fn place_with<D: Device + Drop>(
@@ -42,7 +39,7 @@ pub(crate) fn place_with<D: Device + Drop>(
     }
 }
 
-// Writes the bytes of a new object, which its owner holds from then on.
+// Writes the bytes of a new object. It has no HOT then, as none that was just made has.
 fn fill_new<D: Device + Drop>(evac: &mut Evac<Plain, D>, pointer: u16, bytes: &[u8])
     requires settled { Settled (state_in evac.old) }
     requires fresh { IsFresh (state_in evac.old) pointer }
@@ -52,33 +49,5 @@ fn fill_new<D: Device + Drop>(evac: &mut Evac<Plain, D>, pointer: u16, bytes: &[
     ensures settled { Settled (state_in evac.new) }
     ensures filled { objects_of (state_in evac.new) ≡ with_written pointer 0 bytes.now (objects_of (state_in evac.old)) }
 {
-    hold_new(evac, pointer);
-    overwrite(evac, pointer, 0, bytes);
-}
-
-// Has its owner hold a new object.
-fn hold_new<D: Device + Drop>(evac: &mut Evac<Plain, D>, pointer: u16)
-    requires fresh { IsFresh (state_in evac.old) pointer }
-    ensures keeps { Keeps (state_in evac.old) (state_in evac.new) }
-    ensures held { IsSome ((state_in evac.new).held pointer) }
-{
-    let owner = (pointer / CELLS) as u8;
-    be_open(evac, owner);
-    pin_new(evac, owner, pointer);
-}
-
-// Pins a new object, which its open owner may always do.
-#[inline(always)]
-fn pin_new<D: Device + Drop>(evac: &mut Evac<Plain, D>, owner: u8, pointer: u16)
-    requires opened { is_opened (state_in evac.old) owner ≡ true }
-    requires own { pointer / CELLS ≡ owner }
-    requires fresh { IsFresh (state_in evac.old) pointer }
-    ensures keeps { Keeps (state_in evac.old) (state_in evac.new) }
-    ensures held { IsSome ((state_in evac.new).held pointer) }
-{
-    core_of(evac).keeps_law();
-    match evac.pin(owner, pointer) {
-        Ok(_) => {}
-        Err(_) => unreachable!(),
-    }
+    overwrite_cold(evac, pointer, 0, bytes);
 }

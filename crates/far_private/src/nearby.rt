@@ -8,7 +8,7 @@ ghost use Rattle.far_alone.specs.Objects.{data_of};
 ghost use Rattle.far_private.specs.Objects.{state_in};
 ghost use Rattle.far_private.specs.Steps.{SaysAt};
 
-use crate::scopes::core_of;
+use crate::cells::core_of;
 use far_book::Plain;
 use far_device::Device;
 use far_evac::Evac;

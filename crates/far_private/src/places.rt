@@ -8,11 +8,9 @@ ghost use Rattle.far_core.specs.state.Room.{room};
 ghost use Rattle.far_private.specs.Looks.{IsFresh};
 ghost use Rattle.far_private.specs.Objects.{IsFree, IsFull, Settled, objects_of, state_in, with_new, without};
 ghost use Rattle.far_private.specs.FreePointers.{IsKept};
-ghost use Rattle.far_private.specs.Steps.{Keeps};
 
 use crate::budget::Rounds;
 use crate::free_pointers::FreePointers;
-use crate::scopes::{close, core_of};
 use far_book::Plain;
 use far_device::Device;
 use far_evac::Evac;
@@ -91,29 +89,6 @@ fn place_now<D: Device + Drop>(
 pub(crate) fn drop_used<D: Device + Drop>(evac: &mut Evac<Plain, D>, pointer: u16)
     requires settled { Settled (state_in evac.old) }
     requires used { (state_in evac.old).used pointer ≡ true }
-    ensures settled { Settled (state_in evac.new) }
-    ensures dropped { objects_of (state_in evac.new) ≡ without pointer (objects_of (state_in evac.old)) }
-{
-    let_go(evac, pointer);
-    drop_unheld(evac, pointer);
-}
-
-// Has an object held no longer: its owner's scope is closed where it is.
-fn let_go<D: Device + Drop>(evac: &mut Evac<Plain, D>, pointer: u16)
-    ensures keeps { Keeps (state_in evac.old) (state_in evac.new) }
-    ensures unheld { (state_in evac.new).held pointer ≡ None }
-{
-    if core_of(evac).is_held(pointer) {
-        let owner = (pointer / CELLS) as u8;
-        close(evac, owner);
-    }
-}
-
-// Drops an object that isn't held.
-fn drop_unheld<D: Device + Drop>(evac: &mut Evac<Plain, D>, pointer: u16)
-    requires settled { Settled (state_in evac.old) }
-    requires used { (state_in evac.old).used pointer ≡ true }
-    requires unheld { (state_in evac.old).held pointer ≡ None }
     ensures settled { Settled (state_in evac.new) }
     ensures dropped { objects_of (state_in evac.new) ≡ without pointer (objects_of (state_in evac.old)) }
 {

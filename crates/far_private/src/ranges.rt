@@ -11,12 +11,11 @@ ghost use Rattle.far_private.specs.Heap.{IsOutside};
 ghost use Rattle.far_private.specs.Objects.{IsRead, Settled, access_refusal, bytes_in, len_in, objects_of, state_in, with_written};
 ghost use Rattle.far_private.specs.Steps.{Keeps};
 
-use crate::access::write_held;
-use crate::bringing::{fetch_far, is_near, warm};
+use crate::access::{overwrite, overwrite_cold, warm};
+use crate::bringing::{bring_anew, fetch_far};
 use crate::budget::Rounds;
+use crate::cells::{core_of, is_near, rests};
 use crate::nearby::copy_near;
-use crate::rooms::see;
-use crate::scopes::core_of;
 use far_book::Plain;
 use far_device::Device;
 use far_evac::Evac;
@@ -92,6 +91,7 @@ fn read_reached<D: Device + Drop>(
     from: u16,
     out: &mut [u8],
 ) -> Result<(), Refused>
+    requires settled { Settled (state_in evac.old) }
     requires used { (state_in evac.old).used pointer ≡ true }
     requires some { 0 < length out.old }
     requires inside { from + length out.old ≤ len_in (objects_of (state_in evac.old)) pointer }
@@ -116,6 +116,7 @@ fn read_again<D: Device + Drop>(
     from: u16,
     out: &mut [u8],
 ) -> Result<(), Refused>
+    requires settled { Settled (state_in evac.old) }
     requires used { (state_in evac.old).used pointer ≡ true }
     requires some { 0 < length out.old }
     requires inside { from + length out.old ≤ len_in (objects_of (state_in evac.old)) pointer }
@@ -144,6 +145,7 @@ fn read_once<D: Device + Drop>(
     from: u16,
     out: &mut [u8],
 ) -> Result<(), Refused>
+    requires settled { Settled (state_in evac.old) }
     requires used { (state_in evac.old).used pointer ≡ true }
     requires some { 0 < length out.old }
     requires inside { from + length out.old ≤ len_in (objects_of (state_in evac.old)) pointer }
@@ -165,6 +167,7 @@ fn read_once<D: Device + Drop>(
 // The same of a near object.
 #[inline(always)]
 fn read_near<D: Device + Drop>(evac: &mut Evac<Plain, D>, pointer: u16, from: u16, out: &mut [u8])
+    requires settled { Settled (state_in evac.old) }
     requires used { (state_in evac.old).used pointer ≡ true }
     requires near { says_near (read_of ((state_in evac.old).cell pointer)) ≡ true }
     requires some { 0 < length out.old }
@@ -185,6 +188,7 @@ fn read_far<D: Device + Drop>(
     from: u16,
     out: &mut [u8],
 ) -> Result<(), Refused>
+    requires settled { Settled (state_in evac.old) }
     requires used { (state_in evac.old).used pointer ≡ true }
     requires far { says_near (read_of ((state_in evac.old).cell pointer)) ≡ false }
     requires some { 0 < length out.old }
@@ -242,9 +246,35 @@ fn write_reached<D: Device + Drop>(
     ensures refused { OnErr result (objects_of (state_in evac.new) ≡ objects_of (state_in evac.old)) }
     ensures away { IfErr result (λ why. StaysAway D D.reads (state_in evac.new) pointer evac.new.book.device why) }
 {
-    match see(evac, pointer) {
+    core_of(evac).keeps_law();
+    if rests(core_of(evac).cell(pointer)) {
+        overwrite(evac, pointer, from, bytes);
+        return Ok(());
+    }
+    write_brought(evac, pointer, from, bytes)
+}
+
+// The same of an object on which no view may rest where it is. It is cold then, as one that a read brought is.
+#[inline(never)]
+fn write_brought<D: Device + Drop>(
+    evac: &mut Evac<Plain, D>,
+    pointer: u16,
+    from: u16,
+    bytes: &[u8],
+) -> Result<(), Refused>
+    requires settled { Settled (state_in evac.old) }
+    requires used { (state_in evac.old).used pointer ≡ true }
+    requires some { 0 < length bytes.now }
+    requires inside { from + length bytes.now ≤ len_in (objects_of (state_in evac.old)) pointer }
+    requires most { from + length bytes.now ≤ LONGEST }
+    ensures settled { Settled (state_in evac.new) }
+    ensures written { OnOk result (objects_of (state_in evac.new) ≡ with_written pointer from bytes.now (objects_of (state_in evac.old))) }
+    ensures refused { OnErr result (objects_of (state_in evac.new) ≡ objects_of (state_in evac.old)) }
+    ensures away { IfErr result (λ why. StaysAway D D.reads (state_in evac.new) pointer evac.new.book.device why) }
+{
+    match bring_anew(evac, pointer) {
         Ok(()) => {
-            write_held(evac, pointer, from, bytes);
+            overwrite_cold(evac, pointer, from, bytes);
             Ok(())
         }
         Err(why) => Err(why),

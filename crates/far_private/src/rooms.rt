@@ -1,20 +1,15 @@
 //! A round that a call makes where there is no room.
 
-ghost use Rattle.std.specs.Prelude.{◌≡◌, true, IsSome, IfErr, OnOk};
-ghost use Rattle.far_word.specs.declared.refused.Refused.TheVariants.{NoRoom as no_room};
-ghost use Rattle.far_private.specs.Causes.{StaysAway};
-ghost use Rattle.far_private.specs.Objects.{state_in};
+ghost use Rattle.far_private.specs.Objects.{Settled, state_in};
 ghost use Rattle.far_private.specs.Steps.{Keeps};
 
-use crate::bringing::view;
-use crate::budget::Rounds;
-use crate::scopes::{close, core_of};
+use crate::cells::core_of;
 use crate::staying::keep_near;
 use far_book::Plain;
 use far_device::Device;
 use far_evac::{Evac, Phase, Progress};
 use far_policy::{Chosen, Oldest};
-use far_word::{Place, Refused};
+use far_word::Place;
 
 /// So many logs a round empties, or more.
 const LOGS: usize = 2;
@@ -48,28 +43,20 @@ struct TurnEnd {
     refused: bool,
 }
 
-/// Makes a round, and gives up what it leaves open. All scopes are closed then.
+/// Makes a round, and gives up what it leaves open.
 #[inline(never)]
 pub(crate) fn make_room<D: Device + Drop>(evac: &mut Evac<Plain, D>) -> Outcome
+    requires { Settled (state_in evac.old) }
     ensures { Keeps (state_in evac.old) (state_in evac.new) }
 {
-    close_all(evac);
     let made = round(evac);
     give_up(evac);
     made
 }
 
-/// Closes all scopes.
-pub(crate) fn close_all<D: Device + Drop>(evac: &mut Evac<Plain, D>)
-    ensures { Keeps (state_in evac.old) (state_in evac.new) }
-{
-    for owner in 0..8u8 {
-        close(evac, owner);
-    }
-}
-
 // Makes a round, as far as it goes.
 fn round<D: Device + Drop>(evac: &mut Evac<Plain, D>) -> Outcome
+    requires { Settled (state_in evac.old) }
     ensures { Keeps (state_in evac.old) (state_in evac.new) }
 {
     let chosen = begin(evac);
@@ -101,6 +88,7 @@ fn share(logs: u8) -> usize {
 
 // Makes the turns of a round, in which what the device refuses stays near: whether another object left its log.
 fn make_turns<D: Device + Drop>(evac: &mut Evac<Plain, D>, chosen: &Chosen, first: u8) -> bool
+    requires { Settled (state_in evac.old) }
     ensures { Keeps (state_in evac.old) (state_in evac.new) }
 {
     let mut gives = false;
@@ -155,37 +143,4 @@ fn give_up<D: Device + Drop>(evac: &mut Evac<Plain, D>)
     if evac.phase() != Phase::Idle {
         let _ = evac.abort();
     }
-}
-
-/// Has an object held, making rounds where there is no room for it.
-#[inline]
-pub(crate) fn see<D: Device + Drop>(evac: &mut Evac<Plain, D>, pointer: u16) -> Result<(), Refused>
-    requires used { (state_in evac.old).used pointer ≡ true }
-    ensures keeps { Keeps (state_in evac.old) (state_in evac.new) }
-    ensures held { OnOk result (IsSome ((state_in evac.new).held pointer)) }
-    ensures away { IfErr result (λ why. StaysAway D D.reads (state_in evac.new) pointer evac.new.book.device why) }
-{
-    match view(evac, pointer) {
-        Err(Refused::NoRoom) => see_again(evac, pointer),
-        answer => answer,
-    }
-}
-
-// The same once it was refused.
-#[inline(never)]
-fn see_again<D: Device + Drop>(evac: &mut Evac<Plain, D>, pointer: u16) -> Result<(), Refused>
-    requires used { (state_in evac.old).used pointer ≡ true }
-    requires away { StaysAway D D.reads (state_in evac.old) pointer evac.old.book.device no_room }
-    ensures keeps { Keeps (state_in evac.old) (state_in evac.new) }
-    ensures held { OnOk result (IsSome ((state_in evac.new).held pointer)) }
-    ensures away { IfErr result (λ why. StaysAway D D.reads (state_in evac.new) pointer evac.new.book.device why) }
-{
-    let mut rounds = Rounds::new(evac);
-    while rounds.make(evac) {
-        match view(evac, pointer) {
-            Err(Refused::NoRoom) => {}
-            answer => return answer,
-        }
-    }
-    Err(Refused::NoRoom)
 }

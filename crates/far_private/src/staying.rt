@@ -4,17 +4,17 @@
 ghost use Rattle.std.specs.Prelude.{◌≡◌, ◌<◌};
 ghost use Rattle.far_core.specs.state.CoreState.{core_state};
 ghost use Rattle.far_word.specs.declared.sizes.TheConstants.{LOG_WORDS};
-ghost use Rattle.far_private.specs.Objects.{state_in};
+ghost use Rattle.far_private.specs.Objects.{Settled, state_in};
 ghost use Rattle.far_private.specs.Steps.{Keeps};
 
-use crate::bringing::warm;
-use crate::scopes::{close, core_of};
+use crate::access::heat;
+use crate::cells::core_of;
 use far_book::Plain;
 use far_core::Core;
 use far_device::Device;
 use far_evac::Evac;
 use far_policy::Chosen;
-use far_word::{CELLS, HeadWord, LOG_WORDS, Place, PtrWord, size_of};
+use far_word::{HeadWord, LOG_WORDS, Place, PtrWord, size_of};
 
 /// An object that a round is to deal with next, and where it lies.
 #[derive(Clone, Copy)]
@@ -31,6 +31,7 @@ pub(crate) fn keep_near<D: Device + Drop>(
     chosen: &Chosen,
     from: Place,
 ) -> Option<Place>
+    requires { Settled (state_in evac.old) }
     ensures { Keeps (state_in evac.old) (state_in evac.new) }
 {
     let next = next_in(core_of(evac), chosen.as_slice(), from)?;
@@ -41,15 +42,15 @@ pub(crate) fn keep_near<D: Device + Drop>(
     }
 }
 
-// Sets HOT, unless it is set, and leaves the owner's scope closed.
+// Sets HOT, unless it is set.
 fn keep<D: Device + Drop>(evac: &mut Evac<Plain, D>, pointer: u16) -> bool
+    requires { Settled (state_in evac.old) }
     ensures { Keeps (state_in evac.old) (state_in evac.new) }
 {
     if !core_of(evac).is_used(pointer) || is_hot(core_of(evac).cell(pointer)) {
         return false;
     }
-    warm(evac, pointer);
-    close(evac, (pointer / CELLS) as u8);
+    heat(evac, pointer);
     true
 }
 

@@ -1,9 +1,14 @@
 //! The book over a core of its own: what the core shows, and what owners do.
 
-ghost use Rattle.std.specs.Prelude.{◌≡◌, ◌+◌, ◌-◌, ◌*◌, ◌/◌, ◌^◌, ◌<◌, ◌≤◌, ℕ, true, false, length, slice_index, IsSome, IfOk, IfErr};
+ghost use Rattle.std.specs.Prelude.{◌≡◌, ◌+◌, ◌-◌, ◌*◌, ◌/◌, ◌^◌, ◌<◌, ◌≤◌, ℕ, Some, true, false, length, slice_index, IsSome, IfOk, IfErr};
 ghost use Rattle.far_word.specs.declared.sizes.TheConstants.{CELLS};
 ghost use Rattle.far_word.specs.Sizes.{words_for};
+ghost use Rattle.far_word.specs.declared.pointer.PtrWord.{PtrWord};
+ghost use Rattle.far_word.specs.Pointer.{read_of, word_of};
+ghost use Rattle.far_word.specs.Pointer.{without_owner_marks as cold};
+ghost use Rattle.far_core.specs.events.Accesses.{IsAtRest, heats, hot_word, overwrites_in, overwritten, with_cell};
 ghost use Rattle.far_core.specs.events.Legal.{Legal};
+ghost use Rattle.far_core.specs.events.Pin.{place_to_view};
 ghost use Rattle.far_core.specs.events.Ranges.{AllLegal, after_events, stores};
 ghost use Rattle.far_core.specs.events.Step.{after, answer, data_len, data_word, step_of};
 ghost use Rattle.far_core.specs.events.Written.{written_words};
@@ -15,6 +20,7 @@ ghost use Rattle.far_core.specs.world.WorldOf.{world_of};
 ghost use Rattle.far_hand.specs.Makers.{is_owners};
 ghost use Rattle.far_hand.specs.Others.{OthersChange};
 ghost use Rattle.far_book.specs.book.Actions.{Does, Owns};
+ghost use Rattle.far_book.specs.book.SealedLogs.{KeepsSealed};
 
 use crate::book::Book;
 use far_core::{Core, Event, Reply};
@@ -153,5 +159,49 @@ impl<D: Device + Drop> Book<Plain, D> {
         ensures device { self.new.device ≡ self.old.device }
     {
         self.near.core.store_bytes(owner, pointer, from, bytes);
+    }
+
+    /// Sets HOT on a pointer that its owner uses, which is closed and remembers no epoch: what a scope leaves in which it is pinned.
+    #[inline]
+    pub fn heat(&mut self, owner: u8, pointer: u16)
+        requires rest { IsAtRest (core_state self.old.near.core) owner pointer }
+        ensures events { core_state self.new.near.core ≡ after_events (core_state self.old.near.core) (heats owner pointer) }
+        ensures state { core_state self.new.near.core ≡ with_cell (core_state self.old.near.core) pointer (hot_word ((core_state self.old.near.core).cell pointer)) }
+        ensures order { self.new.order ≡ self.old.order }
+        ensures device { self.new.device ≡ self.old.device }
+    {
+        self.near.core.heat(owner, pointer);
+    }
+
+    /// Bytes of a near object on which a view may rest become `bytes`, from one on; its pointer gets HOT and DIRTY: what a scope
+    /// leaves in which it is pinned, soiled and stored into.
+    #[inline]
+    pub fn write_over(&mut self, owner: u8, pointer: u16, from: u16, bytes: &[u8])
+        requires rest { IsAtRest (core_state self.old.near.core) owner pointer }
+        requires rests { IsSome (place_to_view (read_of ((core_state self.old.near.core).cell pointer))) }
+        requires inside { from + length bytes.now ≤ data_len (core_state self.old.near.core) pointer }
+        ensures events { core_state self.new.near.core ≡ after_events (core_state self.old.near.core) (overwrites_in (core_state self.old.near.core) owner pointer from bytes.now) }
+        ensures rests { IsSome (place_to_view (read_of ((core_state self.new.near.core).cell pointer))) }
+        ensures legal { AllLegal (core_state self.old.near.core) (overwrites_in (core_state self.old.near.core) owner pointer from bytes.now) }
+        ensures state { core_state self.new.near.core ≡ overwritten (core_state self.old.near.core) pointer from bytes.now }
+        ensures order { self.new.order ≡ self.old.order }
+        ensures device { self.new.device ≡ self.old.device }
+    {
+        self.near.core.write_over(owner, pointer, from, bytes);
+    }
+
+    /// Takes HOT from a near object that its owner uses, on which a view may rest: what is left where the owner asks for it to be
+    /// moved, and it stays where it lies.
+    #[inline]
+    pub fn cool(&mut self, owner: u8, pointer: u16)
+        requires rest { IsAtRest (core_state self.old.near.core) owner pointer }
+        requires rests { IsSome (place_to_view (read_of ((core_state self.old.near.core).cell pointer))) }
+        ensures state { (v : PtrWord) → read_of ((core_state self.old.near.core).cell pointer) ≡ Some v → core_state self.new.near.core ≡ with_cell (core_state self.old.near.core) pointer (word_of (cold v)) }
+        ensures one { core_state self.new.near.core ≡ with_cell (core_state self.old.near.core) pointer ((core_state self.new.near.core).cell pointer) }
+        ensures sealed { KeepsSealed (core_state self.old.near.core) (core_state self.new.near.core) }
+        ensures order { self.new.order ≡ self.old.order }
+        ensures device { self.new.device ≡ self.old.device }
+    {
+        self.near.core.cool(owner, pointer);
     }
 }

@@ -36,7 +36,7 @@ impl Memory {
     }
 
     /// Writes bytes over those of the words from one on, from the byte `from` of them on.
-    fn write_bytes(&mut self, first: usize, from: usize, bytes: &[u8])
+    pub(crate) fn write_bytes(&mut self, first: usize, from: usize, bytes: &[u8])
         requires inside { 8 * first + from + length bytes.now ≤ 8 * (LOG_WORDS * (state_of self.old).logs) }
         requires wide { (a : ℕ) → (state_of self.old).word a < 2 ^ 64 }
         ensures { state_of self.new ≡ record (state_of self.old) { word = with_row (state_of self.old).word (first + from / 8) (length (written_words (λ i. (state_of self.old).word (first + i)) from bytes.now)) (λ k. slice_index (written_words (λ i. (state_of self.old).word (first + i)) from bytes.now) k) } }

@@ -1,8 +1,8 @@
 use Rattle.std.proofs.Common.{◌≡◌, ◌+◌, ◌≤◌, arith, length, subst}
-use Rattle.far_core.specs.events.Step.{data_len}
-use Rattle.far_private.specs.Objects.{objects_of, state_in}
-use Rattle.far_private.proofs.HeldRanges.{changes_so}
-use Rattle.far_private.proofs.Keeping.{settled_on}
+use Rattle.far_private.specs.Objects.{len_in, objects_of, state_in}
+use Rattle.far_private.proofs.Changed.{changes_so}
+use Rattle.far_private.proofs.Keeping.{settled_on, used_on}
+use Rattle.far_private.proofs.Ranging.{inside_on}
 use Rattle.far_private.proofs.changing.change_reached.Goals as goal
 
 pub call_once-requires : goal.call_once-requires
@@ -14,10 +14,13 @@ overwrite-requires-clause-settled g c = settled_on (state_in c.args.evac.now) (s
 pub overwrite-requires-clause-some : goal.overwrite-requires-clause-some
 overwrite-requires-clause-some g c = omega (arith, c.take.auto.out, c.call_once.auto.bytes, c.requires.some)
 
+pub overwrite-requires-clause-used : goal.overwrite-requires-clause-used
+overwrite-requires-clause-used g c = used_on (state_in c.args.evac.now) (state_in c.take.new.evac) c.args.pointer c.take.ensures.keeps c.requires.used
+
 pub overwrite-requires-clause-inside : goal.overwrite-requires-clause-inside
 overwrite-requires-clause-inside g c =
     let long : length c.args.bytes.now ≡ length c.call_once.new.bytes = omega (arith, c.take.auto.out, c.call_once.auto.bytes) in
-    subst (λ n. c.args.from + n ≤ data_len (state_in c.take.new.evac) c.args.pointer) long c.in-Ok.ensures.inside
+    subst (λ n. c.args.from + n ≤ len_in (objects_of (state_in c.take.new.evac)) c.args.pointer) long (inside_on (state_in c.args.evac.now) (state_in c.take.new.evac) c.take.ensures.keeps c.args.pointer (c.args.from + length c.args.bytes.now) c.requires.inside)
 
 pub overwrite-requires-clause-most : goal.overwrite-requires-clause-most
 overwrite-requires-clause-most g c = omega (arith, c.take.auto.out, c.call_once.auto.bytes, c.requires.most)

@@ -2,7 +2,7 @@ use Rattle.far_private.proofs.Keeping.{keeps_both}
 use Rattle.far_private.proofs.freeing.free_logs.Goals as goal
 
 pub returns-in-Ok-clause-keeps : goal.returns-in-Ok-clause-keeps
-returns-in-Ok-clause-keeps g c = keeps_both _ _ _ (keeps_both _ _ _ (keeps_both _ _ _ c.close_all.ensures c.end_round.ensures.keeps) c.begin.ensures.keeps) c.turn_all.ensures.keeps
+returns-in-Ok-clause-keeps g c = keeps_both _ _ _ (keeps_both _ _ _ c.end_round.ensures.keeps c.begin.ensures.keeps) c.turn_all.ensures.keeps
 
 pub returns-in-Err-clause-keeps : goal.returns-in-Err-clause-keeps
-returns-in-Err-clause-keeps g c = keeps_both _ _ _ (keeps_both _ _ _ c.close_all.ensures c.end_round.ensures.keeps) c.begin.ensures.keeps
+returns-in-Err-clause-keeps g c = keeps_both _ _ _ c.end_round.ensures.keeps c.begin.ensures.keeps

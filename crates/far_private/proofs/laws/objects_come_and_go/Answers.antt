@@ -8,5 +8,5 @@ returns c = record {
     new_objects s p len ds place law settled free within some most structure found u v e is,
     was_none s p len ds place law settled free within some most structure found,
   );
-  dropped = λ s v u p law settled used unheld e is. (drop_settled s p law settled used unheld u v e is, drop_objects s p law settled used unheld u v e is);
+  dropped = λ s v u p law settled used e is. (drop_settled s p law settled used u v e is, drop_objects s p law settled used u v e is);
 }

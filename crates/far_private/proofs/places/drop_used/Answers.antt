@@ -1,13 +1,20 @@
-use Rattle.std.proofs.Common.{◌∙◌, ap}
-use Rattle.far_private.specs.Objects.{state_in, without}
-use Rattle.far_private.proofs.Keeping.{settled_on, used_on}
+use Rattle.far_private.specs.Objects.{state_in}
+use Rattle.far_private.proofs.Placing.{drop_legal, drop_objects, drop_settled, dropped_inside, dropped_so}
 use Rattle.far_private.proofs.places.drop_used.Goals as goal
 
-pub drop_unheld-requires-clause-settled : goal.drop_unheld-requires-clause-settled
-drop_unheld-requires-clause-settled g c = settled_on (state_in c.args.evac.now) (state_in c.let_go.new.evac) c.requires.settled c.let_go.ensures.keeps
+pub ask-requires : goal.ask-requires
+ask-requires g c = record { legal = drop_legal (state_in c.args.evac.now) c.args.pointer c.args.evac.now.book.near.core.law c.requires.settled c.requires.used }
 
-pub drop_unheld-requires-clause-used : goal.drop_unheld-requires-clause-used
-drop_unheld-requires-clause-used g c = used_on (state_in c.args.evac.now) (state_in c.let_go.new.evac) c.args.pointer c.let_go.ensures.keeps c.requires.used
+pub retire-requires-clause-pointer : goal.retire-requires-clause-pointer
+retire-requires-clause-pointer g c = dropped_inside (state_in c.args.evac.now) c.args.pointer c.args.evac.now.book.near.core.law c.requires.settled c.requires.used (state_in c.ask.new.self) c.ask.ensures.state
+
+pub retire-requires-clause-dropped : goal.retire-requires-clause-dropped
+retire-requires-clause-dropped g c = dropped_so (state_in c.args.evac.now) c.args.pointer c.args.evac.now.book.near.core.law c.requires.settled c.requires.used (state_in c.ask.new.self) c.ask.ensures.state
 
 pub returns : goal.returns
-returns g c = record { settled = c.drop_unheld.ensures.settled; dropped = c.drop_unheld.ensures.dropped ∙ ap (without c.args.pointer) c.let_go.ensures.keeps.objects }
+returns g c = record {
+  settled = drop_settled (state_in c.args.evac.now) c.args.pointer c.args.evac.now.book.near.core.law c.requires.settled c.requires.used (state_in c.retire.new.self) (state_in c.ask.new.self) c.ask.ensures.state
+      (c.retire.ensures.retired.exact tt);
+  dropped = drop_objects (state_in c.args.evac.now) c.args.pointer c.args.evac.now.book.near.core.law c.requires.settled c.requires.used (state_in c.retire.new.self) (state_in c.ask.new.self) c.ask.ensures.state
+      (c.retire.ensures.retired.exact tt);
+}
