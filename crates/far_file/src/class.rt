@@ -6,7 +6,7 @@ ghost use Rattle.std.specs.Vec.{vec_len};
 ghost use Rattle.far_file.specs.Free.{IsFree, IsOwned};
 ghost use Rattle.far_file.specs.declared.place.TheConstants.{KEYS, SLOTS};
 
-use crate::place::{KEYS, SLOTS};
+use crate::place::{KEYS, SLOTS, STEP};
 use std::alloc::Global;
 
 /// Why no slot could be had: for want of memory, since keys have all slots, or since there is no extent for it.
@@ -157,6 +157,5 @@ fn is_owned(owners: &[u16], slot: usize) -> bool
 fn has_room(owners: &mut Vec<u16>) -> bool
     ensures { owners.new.items ≡ owners.old.items }
 {
-    let len = owners.len();
-    len < owners.capacity() || owners.reserve_exact(len / 8 + 32).is_ok()
+    owners.len() < owners.capacity() || owners.reserve_exact(STEP).is_ok()
 }

@@ -19,6 +19,9 @@ pub(crate) const SLOTS: u32 = 2304;
 /// The bytes of a page, which lies in one piece in the storage: an extent.
 pub(crate) const EXTENT: u64 = 16384;
 
+/// What is kept near grows by so many entries: not by as many as there are, most of which stay unused.
+pub(crate) const STEP: usize = 64;
+
 /// The class of the smallest slots with room for so many bytes.
 pub(crate) fn class_of(len: usize) -> usize
     requires { len ≤ SLOT }

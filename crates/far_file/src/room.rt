@@ -8,7 +8,7 @@ ghost use Rattle.far_file.specs.declared.place.TheConstants.{CLASSES, KEYS, SLOT
 
 use crate::class::{Class, Want};
 use crate::extents::Extents;
-use crate::place::{CLASSES, EXTENT, page_of, place_on_page};
+use crate::place::{CLASSES, EXTENT, STEP, page_of, place_on_page};
 use crate::statistics::ClassStatistics;
 use std::alloc::Global;
 
@@ -223,6 +223,25 @@ impl Room {
 
 // Makes room for the extents of so many pages. After `false`, where memory was refused, they are as before.
 fn lengthen(extents: &mut Vec<u32>, pages: usize) -> bool
+    ensures long { IsTrue result → pages ≤ vec_len extents.new }
+    ensures same { (k : ℕ) → slice_index extents.new.items k ≡ slice_index extents.old.items k }
+{
+    if pages > extents.capacity() && !has_room(extents, pages) {
+        return false;
+    }
+    fill_up(extents, pages)
+}
+
+// Takes memory for so many pages, and some more.
+fn has_room(extents: &mut Vec<u32>, pages: usize) -> bool
+    ensures { extents.new.items ≡ extents.old.items }
+{
+    let wanted = pages.saturating_sub(extents.len());
+    extents.reserve_exact(wanted.saturating_add(STEP)).is_ok()
+}
+
+// Adds pages without an extent.
+fn fill_up(extents: &mut Vec<u32>, pages: usize) -> bool
     ensures long { IsTrue result → pages ≤ vec_len extents.new }
     ensures same { (k : ℕ) → slice_index extents.new.items k ≡ slice_index extents.old.items k }
 {

@@ -7,7 +7,7 @@ ghost use Rattle.far_file.specs.declared.place.TheConstants.{KEYS, SLOT};
 
 use crate::code::Code;
 use crate::held::Held;
-use crate::place::SLOT;
+use crate::place::{SLOT, STEP};
 use crate::seal::Seal;
 use std::alloc::Global;
 use std::mem::replace;
@@ -15,9 +15,6 @@ use std::snapshot::Snapshot;
 
 /// A length that no bytes have.
 const NOTHING: u16 = 4097;
-
-/// A row grows by so many entries, and an eighth of those that it has: not by as many as it has, most of which stay unused.
-const MORE: usize = 32;
 
 /// What is known of a key without bytes.
 pub(crate) fn nothing<L: Seal>(alloc: Global) -> Held<L>
@@ -86,7 +83,7 @@ fn has_room<L: Seal>(row: &mut Vec<Held<L>>, entries: usize) -> bool
 {
     let len = row.len();
     let wanted = entries.saturating_sub(len);
-    row.reserve_exact(wanted + entries / 8 + MORE).is_ok()
+    row.reserve_exact(wanted + STEP).is_ok()
 }
 
 // Makes a row longer than a number by entries of keys without bytes.
