@@ -1,7 +1,7 @@
 //! The calls of a heap, each with what it answers as a number: 0, or that of the refusal.
 
-use crate::tests::devices::{Flaw, Flawed};
 use crate::tests::rows::add;
+use far_device::Device;
 use far_policy::Oldest;
 use far_private::{PrivateHeap, Statistics};
 use far_word::Refused;
@@ -14,16 +14,6 @@ pub(super) struct Part {
     pub(super) from: usize,
     /// By how much an update makes each byte greater.
     pub(super) more: u8,
-}
-
-/// A heap over a device with a flaw.
-pub(super) fn heap_over(
-    alloc: Global,
-    logs: u64,
-    flaw: Flaw,
-    at: u64,
-) -> Result<PrivateHeap<Flawed>, Refused> {
-    PrivateHeap::new(alloc, logs, false, Flawed::new(alloc, flaw, at))
 }
 
 // What a call says.
@@ -43,17 +33,30 @@ fn made(answer: Result<u16, Refused>) -> (u8, u16) {
 }
 
 /// Makes an object of zeros.
-pub(super) fn alloc(heap: &mut PrivateHeap<Flawed>, len: u16, structure: u8) -> (u8, u16) {
+pub(super) fn alloc<D: Device + Drop>(
+    heap: &mut PrivateHeap<D>,
+    len: u16,
+    structure: u8,
+) -> (u8, u16) {
     made(heap.alloc(len, structure))
 }
 
 /// Makes an object of bytes.
-pub(super) fn alloc_with(heap: &mut PrivateHeap<Flawed>, bytes: &[u8], structure: u8) -> (u8, u16) {
+pub(super) fn alloc_with<D: Device + Drop>(
+    heap: &mut PrivateHeap<D>,
+    bytes: &[u8],
+    structure: u8,
+) -> (u8, u16) {
     made(heap.alloc_with(bytes, structure))
 }
 
 /// Reads, writes or updates a range, by the first letter of the act.
-pub(super) fn ask(heap: &mut PrivateHeap<Flawed>, verb: u8, part: Part, bytes: &mut [u8]) -> u8 {
+pub(super) fn ask<D: Device + Drop>(
+    heap: &mut PrivateHeap<D>,
+    verb: u8,
+    part: Part,
+    bytes: &mut [u8],
+) -> u8 {
     match verb {
         b'h' => said(heap.read(part.pointer, part.from, bytes)),
         b'f' => said(heap.write(part.pointer, part.from, bytes)),
@@ -61,19 +64,19 @@ pub(super) fn ask(heap: &mut PrivateHeap<Flawed>, verb: u8, part: Part, bytes: &
     }
 }
 
-fn update(heap: &mut PrivateHeap<Flawed>, part: Part, bytes: &mut [u8]) -> u8 {
+fn update<D: Device + Drop>(heap: &mut PrivateHeap<D>, part: Part, bytes: &mut [u8]) -> u8 {
     said(heap.update(part.pointer, part.from, bytes, |bytes: &mut [u8]| {
         add(bytes, part.more)
     }))
 }
 
 /// Drops an object.
-pub(super) fn drop_object(heap: &mut PrivateHeap<Flawed>, pointer: u16) -> u8 {
+pub(super) fn drop_object<D: Device + Drop>(heap: &mut PrivateHeap<D>, pointer: u16) -> u8 {
     said(heap.drop_object(pointer))
 }
 
 /// What a cell tells: the length and the data structure of its object; 0 where it has none.
-pub(super) fn look(heap: &PrivateHeap<Flawed>, pointer: u16) -> (u16, u8) {
+pub(super) fn look<D: Device + Drop>(heap: &PrivateHeap<D>, pointer: u16) -> (u16, u8) {
     match (heap.len_of(pointer), heap.structure_of(pointer)) {
         (Some(len), Some(structure)) if heap.holds(pointer) => (len, structure),
         (None, None) if !heap.holds(pointer) => (0, 0),
@@ -82,7 +85,7 @@ pub(super) fn look(heap: &PrivateHeap<Flawed>, pointer: u16) -> (u16, u8) {
 }
 
 /// Makes a round: how many logs it gave back; `usize::MAX` where it was refused.
-pub(super) fn round(heap: &mut PrivateHeap<Flawed>, most: usize) -> usize {
+pub(super) fn round<D: Device + Drop>(heap: &mut PrivateHeap<D>, most: usize) -> usize {
     match heap.make_room(&mut Oldest, most) {
         Ok(freed) => freed,
         Err(_) => usize::MAX,
@@ -90,13 +93,13 @@ pub(super) fn round(heap: &mut PrivateHeap<Flawed>, most: usize) -> usize {
 }
 
 /// What the heap tells of itself.
-pub(super) fn tell(heap: &PrivateHeap<Flawed>) -> Statistics {
+pub(super) fn tell<D: Device + Drop>(heap: &PrivateHeap<D>) -> Statistics {
     heap.statistics()
 }
 
 /// Whether a heap of so many logs begins.
-pub(super) fn begins(alloc: Global, logs: u64) -> u8 {
-    match heap_over(alloc, logs, Flaw::Nothing, 0) {
+pub(super) fn begins<D: Device + Drop>(alloc: Global, logs: u64, device: D) -> u8 {
+    match PrivateHeap::new(alloc, logs, false, device) {
         Ok(_) => 0,
         Err(why) => why.number(),
     }

@@ -1,13 +1,14 @@
 //! The text of the crate's page, as a test.
 
-use far_device::MemDevice;
+ghost use Rattle.std.specs.Prelude.{◌≡◌, true};
+
+use far_device::{Device, MemDevice};
 use far_private::PrivateHeap;
 use far_word::Refused;
 use std::alloc::Global;
 
 // Whether each object has its bytes, near or far.
-fn is_so(alloc: Global) -> Result<bool, Refused> {
-    let mut heap = PrivateHeap::new(alloc, 16, true, MemDevice::new(alloc))?;
+fn is_so<D: Device + Drop>(heap: &mut PrivateHeap<D>) -> Result<bool, Refused> {
     let pointer = heap.alloc_with(b"hello", 1)?;
     heap.write(pointer, 0, b"J")?;
     for _ in 0..100u8 {
@@ -25,7 +26,17 @@ fn is_so(alloc: Global) -> Result<bool, Refused> {
     Ok(came_back && changed && gone)
 }
 
+// Whether it is so in a heap over an honest device.
+fn is_so_over<D: Device + Drop>(alloc: Global, device: D) -> bool
+    requires { D.honest device ≡ true }
+{
+    match PrivateHeap::new(alloc, 16, true, device) {
+        Ok(mut heap) => is_so(&mut heap) == Ok(true),
+        Err(_) => false,
+    }
+}
+
 #[test]
 fn readme(rt: HostRuntime) {
-    assert!(rt; is_so(rt.alloc()) == Ok(true));
+    assert!(rt; is_so_over(rt.alloc(), MemDevice::new(rt.alloc())));
 }

@@ -3,6 +3,7 @@
 use crate::tests::acts::{FOUR_LOGS, Play};
 use crate::tests::calls::begins;
 use crate::tests::stage::play;
+use far_device::MemDevice;
 
 /// Numbers of logs, each with what a heap of so many is refused as.
 const LOGS: &[(u64, u8)] = &[(0, 15), (1, 15), (2, 0), (64, 0), (65, 15), (u64::MAX, 15)];
@@ -10,7 +11,10 @@ const LOGS: &[(u64, u8)] = &[(0, 15), (1, 15), (2, 0), (64, 0), (65, 15), (u64::
 #[test]
 fn a_heap_has_2_to_64_logs(rt: HostRuntime) {
     for (logs, said) in LOGS {
-        assert!(rt; begins(rt.alloc(), *logs) == *said, "{logs}");
+        assert!(rt;
+            begins(rt.alloc(), *logs, MemDevice::new(rt.alloc())) == *said,
+            "{logs}"
+        );
     }
 }
 

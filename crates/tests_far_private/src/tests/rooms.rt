@@ -78,6 +78,12 @@ const MOVED: &str =
 // It leaves again, with one that the device doesn't have yet, and isn't written, since the device has its bytes.
 const SPARED: &str = "many 1 4088; round 64 1; tell 4 3 2 1 3 1 0 4096;";
 
+// An object of bytes that nobody used since leaves, and doesn't move.
+const UNUSED: &str = "bytes 0 8 9; many 1 4088; round 1 1; tell 4 2 1 0 1 0 0 8;";
+
+// So does one that a write brought.
+const BROUGHT: &str = "fill 0 0 8 5; many 1 4088; round 64 1; tell 4 3 2 1 3 0 0 4096;";
+
 // The device fails the first write.
 const FAULTS: &str =
     "new 0 8; many 1 4088; round 1 0; tell 4 2 0 0 0 0 1; round 1 1; tell 4 2 1 0 1 0 1 8;";
@@ -96,6 +102,7 @@ const PLAYS: &[Play] = &[
     Play { name: "a_fetch_is_counted_once", parts: &[COUNTED, READ_AGAIN], ..FOUR_LOGS },
     Play { name: "a_write_that_is_spared_is_counted", parts: &[COUNTED, SPARED], ..FOUR_LOGS },
     Play { name: "a_used_object_moves", parts: &[MOVED], ..FOUR_LOGS },
+    Play { name: "an_unused_object_leaves", parts: &[UNUSED, BROUGHT], ..FOUR_LOGS },
     Play { name: "faults_are_counted", flaw: Flaw::Fails, at: 1, parts: &[FAULTS], ..FOUR_LOGS },
     Play { name: "one_failure_leaves_room", flaw: Flaw::Fails, at: 1, parts: &[PASSES], ..FOUR_LOGS },
     Play { name: "a_later_one_does", flaw: Flaw::Lacks, at: 5, parts: &[PASSES], ..FOUR_LOGS },

@@ -1,11 +1,10 @@
 //! A heap on which a test is played, act by act.
 
 use crate::tests::acts::{Act, Play, Range, byte_of, row, whole};
-use crate::tests::calls::{
-    Part, alloc, alloc_with, ask, drop_object, heap_over, look, round, tell,
-};
+use crate::tests::calls::{Part, alloc, alloc_with, ask, drop_object, look, round, tell};
 use crate::tests::devices::Flawed;
 use crate::tests::rows::{fill, is_row};
+use far_device::Device;
 use far_private::PrivateHeap;
 use std::alloc::Global;
 use std::process::Abort;
@@ -21,13 +20,13 @@ const NO_NAME: u64 = u64::MAX;
 
 /// A heap, and the pointers of the objects that the test has named.
 #[derive(Drop)]
-struct Stage {
-    heap: PrivateHeap<Flawed>,
+struct Stage<D: Device + Drop> {
+    heap: PrivateHeap<D>,
     named: [u16; 32],
     patient: bool,
 }
 
-impl Stage {
+impl<D: Device + Drop> Stage<D> {
     // A number that is no name stands for a pointer.
     fn pointer(&self, name: u64) -> u16 {
         match self.named.get(name as usize) {
@@ -323,9 +322,9 @@ fn is_left(verb: u8, said: u8, bytes: &[u8], first: u8, step: u8) -> bool {
     }
 }
 
-// Whether a play comes out on its k-th heap.
-fn plays_on(alloc: Global, play: &Play, k: u64) -> bool {
-    match heap_over(alloc, play.logs, play.flaw, play.at.saturating_add(k)) {
+// Whether a play comes out on a heap over a device.
+fn plays_on<D: Device + Drop>(alloc: Global, play: &Play, device: D) -> bool {
+    match PrivateHeap::new(alloc, play.logs, false, device) {
         Ok(heap) => {
             let mut stage = Stage {
                 heap,
@@ -341,7 +340,8 @@ fn plays_on(alloc: Global, play: &Play, k: u64) -> bool {
 // The first heap on which a play doesn't come out, or how many it has.
 fn first_wrong(alloc: Global, play: &Play) -> u64 {
     for k in 0..play.heaps {
-        if !plays_on(alloc, play, k) {
+        let device = Flawed::new(alloc, play.flaw, play.at.saturating_add(k));
+        if !plays_on(alloc, play, device) {
             return k;
         }
     }
