@@ -4,3 +4,4 @@ mod Growing
 mod Histories
 mod Shelves
 mod Workers
+pub mod Worst

@@ -3,3 +3,4 @@ pub mod Generations
 pub mod History
 pub mod Plans
 pub mod Pool
+pub mod Statistics

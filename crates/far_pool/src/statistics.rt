@@ -1,6 +1,7 @@
 //! What a worker has, and what it has done.
 
-ghost use Rattle.std.specs.Prelude.{◌≡◌, ◌+◌, ◌^◌, ◌≤◌};
+ghost use Rattle.std.specs.Prelude.{◌≡◌, ◌+◌, ◌*◌, ◌/◌, ◌<◌, ◌^◌, ◌≤◌, None};
+ghost use Rattle.far_pool.specs.Statistics.{Adds, compared, misses_per_thousand};
 
 use far_private::Statistics;
 use std::fmt;
@@ -22,6 +23,8 @@ pub struct WorkerStatistics {
     pub unused: u64,
     /// Bytes of the objects on the devices alone, headers not counted.
     pub far_bytes: u64,
+    /// Calls of `read`, `write` and `update`, also those that were refused, modulo 2^64.
+    pub accesses: u64,
     /// Objects that were brought near.
     pub fetches: u64,
     /// Objects that went far.
@@ -41,9 +44,12 @@ pub struct WorkerStatistics {
 }
 
 impl WorkerStatistics {
-    // Of no heap.
-    pub(crate) fn none() -> WorkerStatistics
-        ensures { result.near + result.far ≡ 0 }
+    // Of no heap, after so many accesses.
+    pub(crate) fn none(accesses: u64) -> WorkerStatistics
+        ensures objects { result.near + result.far ≡ 0 }
+        ensures heaps { result.heaps ≡ 0 }
+        ensures worst { result.worst ≡ None }
+        ensures faults { result.worst_faults ≡ 0 }
     {
         WorkerStatistics {
             heaps: 0,
@@ -53,6 +59,7 @@ impl WorkerStatistics {
             dead: 0,
             unused: 0,
             far_bytes: 0,
+            accesses,
             fetches: 0,
             evictions: 0,
             writes_spared: 0,
@@ -66,8 +73,7 @@ impl WorkerStatistics {
 
     // Whether the next heap's device failed more often than any before.
     fn compare(&mut self, faults: u64)
-        ensures near { self.new.near ≡ self.old.near }
-        ensures far { self.new.far ≡ self.old.far }
+        ensures { self.new ≡ compared faults self.old }
     {
         if faults > self.worst_faults {
             self.worst = Some(self.heaps);
@@ -78,7 +84,7 @@ impl WorkerStatistics {
     // Of a heap more.
     pub(crate) fn add(&mut self, more: &Statistics)
         requires { self.old.near + self.old.far ≤ 2 ^ 60 }
-        ensures { self.new.near + self.new.far ≡ self.old.near + self.old.far + (more.now.near + more.now.far) }
+        ensures { Adds self.old more.now self.new }
     {
         self.compare(more.device_faults);
         self.heaps = self.heaps.saturating_add(1);
@@ -95,26 +101,58 @@ impl WorkerStatistics {
         self.rounds = self.rounds.saturating_add(more.rounds);
         self.device_faults = self.device_faults.saturating_add(more.device_faults);
     }
-}
 
-impl fmt::Display for WorkerStatistics {
-    fn fmt<W: fmt::Write>(&self, f: &mut fmt::Formatter<W>) -> fmt::Result {
+    /// How many objects were brought near in a thousand accesses, rounded down; 0 where there was no access.
+    pub fn misses_per_thousand(&self) -> u64
+        ensures { self.now.fetches ≤ 2 ^ 54 → result ≡ misses_per_thousand self.now }
+    {
+        if self.accesses == 0 {
+            return 0;
+        }
+        self.fetches.saturating_mul(1000) / self.accesses
+    }
+
+    // What it has, in words.
+    fn tell_objects<W: fmt::Write>(&self, f: &mut fmt::Formatter<W>) -> fmt::Result {
         write!(
             f,
-            "heaps {} near {} far {} live {} dead {} unused {} far_bytes {} fetches {} evictions {} spared {} moves {} rounds {} faults {}",
-            self.heaps,
-            self.near,
-            self.far,
-            self.live,
-            self.dead,
-            self.unused,
-            self.far_bytes,
+            "heaps {} near {} far {} live {} dead {} unused {} far_bytes {}",
+            self.heaps, self.near, self.far, self.live, self.dead, self.unused, self.far_bytes
+        )
+    }
+
+    // What it has done.
+    fn tell_work<W: fmt::Write>(&self, f: &mut fmt::Formatter<W>) -> fmt::Result {
+        write!(
+            f,
+            " accesses {} misses_per_thousand {} fetches {} evictions {} spared {} moves {} rounds {}",
+            self.accesses,
+            self.misses_per_thousand(),
             self.fetches,
             self.evictions,
             self.writes_spared,
             self.moves,
-            self.rounds,
-            self.device_faults
+            self.rounds
         )
+    }
+
+    // What devices failed.
+    fn tell_faults<W: fmt::Write>(&self, f: &mut fmt::Formatter<W>) -> fmt::Result {
+        match self.worst {
+            Some(heap) => write!(
+                f,
+                " faults {} worst {heap} worst_faults {}",
+                self.device_faults, self.worst_faults
+            ),
+            None => write!(f, " faults {} worst none", self.device_faults),
+        }
+    }
+}
+
+impl fmt::Display for WorkerStatistics {
+    fn fmt<W: fmt::Write>(&self, f: &mut fmt::Formatter<W>) -> fmt::Result {
+        self.tell_objects(f)?;
+        self.tell_work(f)?;
+        self.tell_faults(f)
     }
 }

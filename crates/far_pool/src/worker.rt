@@ -34,6 +34,8 @@ struct Parts<D: Device + Drop, M: MakeDevice<D> + Drop> {
     shelves: Vec<Counted<D>>,
     // The heaps that may have a free pointer, each once, the next first. Nothing that is promised rests on it.
     open: VecDeque<u32>,
+    // How often an object was to be read, written or updated.
+    accesses: u64,
 }
 
 /// The most heaps of a worker.
@@ -73,9 +75,10 @@ impl<D: Device + Drop, M: MakeDevice<D> + Drop> Worker<D, M> {
         ensures empty { IfOk result (λ worker. (h : AnyHandle) → at worker h ≡ None) }
         ensures zero { IfOk result (λ worker. (h : AnyHandle) → generation_in worker h ≡ 0) }
         ensures honest { IfOk result (λ worker. worker.honest ≡ honest) }
+        ensures heaps { IfOk result (λ worker. length worker.shelves ≡ layout.heaps) }
     {
         let mut worker = Worker::without_heaps(alloc, maker, layout.logs, honest);
-        for _ in 0..layout.heaps {
+        for number in 0..layout.heaps {
             match worker.add_heap() {
                 Ok(_) => {}
                 Err(why) => return Err(why),
@@ -90,6 +93,7 @@ impl<D: Device + Drop, M: MakeDevice<D> + Drop> Worker<D, M> {
         ensures empty { (h : AnyHandle) → at result h ≡ None }
         ensures zero { (h : AnyHandle) → generation_in result h ≡ 0 }
         ensures honest { result.honest ≡ honest }
+        ensures none { length result.shelves ≡ 0 }
     {
         Worker {
             parts: Parts {
@@ -99,16 +103,18 @@ impl<D: Device + Drop, M: MakeDevice<D> + Drop> Worker<D, M> {
                 honest,
                 shelves: Vec::new(alloc),
                 open: VecDeque::new(alloc),
+                accesses: 0,
             },
         }
     }
 
-    /// Adds a heap beside those that the worker began with. No object changes.
+    /// Adds a heap behind those that there are, and answers its number. No object changes.
     ///
     /// Refused [`Refused::NoPointer`] exactly where there are 2,097,152 heaps, and then [`Refused::Shape`], [`Refused::Memory`], and as the maker of devices refuses.
     pub fn add_heap(&mut self) -> Result<u32, Refused>
         ensures same { Same self.old self.new }
-        ensures there { IfOk result (λ heap. heap < length self.new.shelves) }
+        ensures more { IfOk result (λ heap. (heap ≡ length self.old.shelves) × (length self.new.shelves ≡ length self.old.shelves + 1)) }
+        ensures refused { OnErr result (self.new ≡ self.old) }
     {
         let Ok(number) = u32::try_from(self.parts.shelves.len()) else {
             return Err(Refused::NoPointer);
@@ -153,7 +159,8 @@ impl<D: Device + Drop, M: MakeDevice<D> + Drop> Worker<D, M> {
         requires zero { (p : ℕ) → generation_on shelf p ≡ 0 }
         requires honest { shelf.honest ≡ self.old.honest }
         ensures same { Same self.old self.new }
-        ensures there { IfOk result (λ heap. heap < length self.new.shelves) }
+        ensures more { IfOk result (λ heap. (heap ≡ length self.old.shelves) × (length self.new.shelves ≡ length self.old.shelves + 1)) }
+        ensures refused { OnErr result (self.new ≡ self.old) }
     {
         // There is room for all heaps then, so that none is left out where a drop puts it back.
         let Ok(()) = self.parts.open.reserve(number as usize + 1) else {
@@ -282,6 +289,7 @@ impl<D: Device + Drop, M: MakeDevice<D> + Drop> Worker<D, M> {
         ensures barred { (why : Refusal) → refusal_of (at self.old handle) from (length out.old) ≡ Some why → result ≡ Err why }
         ensures why { IfErr result (λ why. IsWhyNoAccess self.old.honest (refusal_of (at self.old handle) from (length out.old)) why) }
     {
+        self.parts.accesses = self.parts.accesses.wrapping_add(1);
         let at = handle.heap as usize;
         if at >= self.parts.shelves.len() {
             return Err(Refused::NotHeld);
@@ -298,6 +306,7 @@ impl<D: Device + Drop, M: MakeDevice<D> + Drop> Worker<D, M> {
         ensures barred { (why : Refusal) → refusal_of (at self.old handle) from (length bytes.now) ≡ Some why → result ≡ Err why }
         ensures why { IfErr result (λ why. IsWhyNoAccess self.old.honest (refusal_of (at self.old handle) from (length bytes.now)) why) }
     {
+        self.parts.accesses = self.parts.accesses.wrapping_add(1);
         let at = handle.heap as usize;
         if at >= self.parts.shelves.len() {
             return Err(Refused::NotHeld);
@@ -323,6 +332,7 @@ impl<D: Device + Drop, M: MakeDevice<D> + Drop> Worker<D, M> {
         ensures barred { (why : Refusal) → refusal_of (at self.old handle) from (length bytes.old) ≡ Some why → result ≡ Err why }
         ensures why { IfErr result (λ why. IsWhyNoAccess self.old.honest (refusal_of (at self.old handle) from (length bytes.old)) why) }
     {
+        self.parts.accesses = self.parts.accesses.wrapping_add(1);
         let at = handle.heap as usize;
         if at >= self.parts.shelves.len() {
             return Err(Refused::NotHeld);

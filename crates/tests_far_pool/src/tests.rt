@@ -5,3 +5,4 @@ mod devices;
 mod planning;
 mod readme;
 mod stale;
+mod telling;

@@ -2,6 +2,7 @@
 
 ghost use Rattle.std.specs.Prelude.{◌≡◌, ◌+◌, length};
 ghost use Rattle.far_pool.specs.Pool.{count_in};
+ghost use Rattle.far_pool.specs.Statistics.{IsWorst};
 
 use crate::maker::MakeDevice;
 use crate::statistics::WorkerStatistics;
@@ -19,8 +20,10 @@ impl<D: Device + Drop, M: MakeDevice<D> + Drop> Worker<D, M> {
     /// What the worker has, and what it has done since it was made. It looks at each heap.
     pub fn statistics(&self) -> WorkerStatistics
         ensures objects { result.near + result.far ≡ count_in self.now }
+        ensures heaps { result.heaps ≡ length self.now.shelves }
+        ensures worst { IsWorst result.heaps result.worst result.worst_faults }
     {
-        let mut all = WorkerStatistics::none();
+        let mut all = WorkerStatistics::none(self.parts.accesses);
         for number in 0..self.parts.shelves.len() {
             all.add(&self.parts.shelves[number].statistics());
         }
