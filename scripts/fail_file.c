@@ -1,6 +1,7 @@
 // Preloaded into a program, makes its call number FAIL_CALL of those that read or write at a position fail (counted from 1; 0 or no such variable: none), by the
 // error of number FAIL_WITH (by EIO without that), or where FAIL_SHORT is set do half of what was asked. Each write from number FAIL_FULL on fails likewise. Each call
-// is interrupted FAIL_INTERRUPT times before it is made. Byte number FAIL_FLIP of what each such read gives is another, counted from 1 too. From thread number
+// is interrupted FAIL_INTERRUPT times before it is made. Write number FAIL_TORN puts half of its bytes and says that it put all. Before read number FAIL_CUT the file
+// loses all its bytes. Byte number FAIL_FLIP of what each such read gives is another, counted from 1 too. From thread number
 // FAIL_THREAD on none can be made. Where FAIL_UNLINK is set no file loses its name; where FAIL_OPEN is set none can be made, by the error of that number.
 //
 //   cc -O2 -shared -fPIC -o fail_file.so fail_file.c -ldl
@@ -12,9 +13,12 @@
 #include <stdarg.h>
 #include <stdlib.h>
 #include <sys/types.h>
+#include <unistd.h>
 
-static long count, threads, writes;
+static long count, cuts, tears, threads, writes;
 static __thread long interrupted;
+// How many bytes a write says that it put, where it tears them; else 0.
+static __thread size_t torn;
 
 // What a variable says; 0 without it.
 static long number(const char *name) {
@@ -36,13 +40,15 @@ static ssize_t fail(void) {
 }
 
 // How many bytes this call is to ask for; -1: it fails.
-static ssize_t asked(size_t size, int is_write) {
+static ssize_t asked(int file, size_t size, int is_write) {
     if (interrupted++ < number("FAIL_INTERRUPT")) {
         errno = EINTR;
         return -1;
     }
     interrupted = 0;
     if (is_write && reached(&writes, "FAIL_FULL") >= 0) return fail();
+    if (!is_write && reached(&cuts, "FAIL_CUT") == 0 && ftruncate(file, 0) != 0) return fail();
+    if (is_write && reached(&tears, "FAIL_TORN") == 0) return (ssize_t)((torn = size) / 2);
     if (reached(&count, "FAIL_CALL") != 0) return (ssize_t)size;
     if (getenv("FAIL_SHORT")) return (ssize_t)(size / 2);
     return fail();
@@ -56,6 +62,8 @@ static ssize_t was_read(void *at, ssize_t size) {
 
 static ssize_t was_written(const void *at, ssize_t size) {
     (void)at;
+    if (torn) size = (ssize_t)torn;
+    torn = 0;
     return size;
 }
 
@@ -63,7 +71,7 @@ static ssize_t was_written(const void *at, ssize_t size) {
     ssize_t NAME(int file, BYTES at, size_t size, off_t from) {                               \
         static ssize_t (*real)(int, BYTES, size_t, off_t);                                    \
         if (!real) real = (ssize_t (*)(int, BYTES, size_t, off_t))dlsym(RTLD_NEXT, #NAME);    \
-        ssize_t left = asked(size, IS_WRITE);                                                 \
+        ssize_t left = asked(file, size, IS_WRITE);                                           \
         return left < 0 ? left : WAS(at, real(file, at, (size_t)left, from));                 \
     }
 

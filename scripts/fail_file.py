@@ -1,9 +1,9 @@
 #!/usr/bin/env python3
 """Runs soak_far_heap over a file that fails: one that may grow to so many bytes only, one of which one read or write fails, or does half, or each write from one
 on, one whose calls are interrupted, one that gives other bytes, and one that can't be made, or keeps its name; where standard streams are closed; where threads can't
-be made; and with words that it must refuse.
+be made; and with words that it must refuse. Then tells_file, which says by name what each of three devices over one such file met.
 
-usage: fail_file.py SOAK
+usage: fail_file.py SOAK [TELLS]     TELLS: a built tells_file of bench/programs
 A read or a write that does half of what was asked is gone on with. What fails is told, and so are other bytes, whichever byte of an object it is: the soak counts
 a wrong answer, as of any device that isn't to fail, and ends with status 1; no read that the heap grants gives a wrong byte. The file of a run that is killed is
 gone; it stands for none of the standard streams, and nobody but its owner may read it. Prints only what is wrong.
@@ -40,6 +40,16 @@ THERE = f"soak_far_heap: {FILE}: File exists (os error 17)\n"
 # The file's descriptor and its mode, once it has lost its name.
 OWN = r"([3-9]|[1-9]\d+) 600"
 LONGEST = 300
+# What the devices of tells_file met: each writes eight objects, and reads all that it has after each.
+FINE = (0, 0, "no fault")
+ROOM = "the storage failed: there was no room for the bytes"
+MEDIUM = "the storage failed: the medium failed, or the server that has it"
+FAILED = "the storage failed: the system failed"
+SHORT = "the storage failed: there were fewer bytes than were asked for"
+AGAIN = "the storage failed: calls of the system were interrupted again and again"
+OTHER = "other bytes came back than were written"
+NAMES = {errno.ENOSPC: ROOM, errno.EDQUOT: ROOM, errno.EFBIG: ROOM, errno.EIO: MEDIUM, errno.ESTALE: FAILED, errno.EBADF: FAILED}
+NO_FILE = {os.mkfifo: "what has the name is no file of bytes at positions", os.mkdir: "Is a directory (os error 21)"}
 wrong = []
 
 
@@ -164,14 +174,49 @@ def refuses(program: str, library: str) -> None:
         expect(f"a soak whose word {at + 1} is 'x'", came == (2, "", USAGE), came)
 
 
+def met(*devices: tuple) -> str:
+    """What tells_file prints of devices of which each has writes that were refused, reads that failed, and the last fault."""
+    return "".join(f"device {it}: {refused} writes refused, {failed} reads failed, 0 wrong, {why}\n" for it, (refused, failed, why) in enumerate(devices))
+
+
+def tells(program: str, library: str) -> None:
+    """What goes wrong with three devices of one file, by name."""
+
+    def row(what: str, wanted: str, limit: int = resource.RLIM_INFINITY, **variables: str) -> None:
+        came = run(program, limit=limit, LD_PRELOAD=library, **variables)
+        expect(what, came == (0, wanted, ""), came)
+
+    row("all is well", met(FINE, FINE, FINE))
+    for why, name in NAMES.items():
+        row(f"error {why} of each write", met(*[(8, 0, name)] * 3), FAIL_FULL="1", FAIL_WITH=str(why))
+        # Each device has three objects then, and one has four.
+        row(f"error {why} of each write from 11", met((4, 0, name), (5, 0, name), (5, 0, name)), FAIL_FULL="11", FAIL_WITH=str(why))
+        row(f"error {why} of a write", met(FINE, (1, 0, name), FINE), FAIL_CALL="2", FAIL_WITH=str(why))
+        row(f"error {why} of a read", met((0, 1, name), FINE, FINE), FAIL_CALL="4", FAIL_WITH=str(why))
+    # The first extent lies below the limit: the two objects of one device that have slots of 64 bytes.
+    row("a file of 32 KiB at most", met((6, 0, ROOM), (8, 0, ROOM), (8, 0, ROOM)), limit=32_768)
+    row("calls that are interrupted 99 times", met(FINE, FINE, FINE), FAIL_INTERRUPT="99")
+    row("calls that are interrupted without end", met(*[(8, 0, AGAIN)] * 3), FAIL_INTERRUPT="1000000")
+    # Before the reads after the last turn.
+    row("a file that is cut", met(*[(0, 8, SHORT)] * 3), FAIL_CUT="85")
+    row("a write that is torn", met((0, 8, OTHER), FINE, FINE), FAIL_TORN="1")
+    for makes, why in NO_FILE.items():
+        makes("there")
+        came = run(program, "there", "replacing")
+        expect(f"no file, by {makes.__name__}", came == (3, "", f"tells_file: there: {why}\n"), came)
+        (os.rmdir if makes is os.mkdir else os.remove)("there")
+
+
 def main() -> int:
-    program = os.path.abspath(sys.argv[1])
+    program, *tellers = map(os.path.abspath, sys.argv[1:])
     with tempfile.TemporaryDirectory() as folder:
         os.chdir(folder)
         library = os.path.join(folder, "fail_file.so")
         subprocess.run(["cc", "-O2", "-shared", "-fPIC", "-o", library, f"{HERE}/fail_file.c", "-ldl"], check=True)
         for rows in (fails, opens, refuses):
             rows(program, library)
+        for teller in tellers:
+            tells(teller, library)
         os.chdir("/")
     for line in wrong:
         print(line, file=sys.stderr)

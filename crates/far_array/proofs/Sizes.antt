@@ -1,0 +1,59 @@
+-- How many records and blocks there are.
+use Rattle.std.proofs.Common.{◌≡◌, ℕ, ◌+◌, ◌*◌, ◌^◌, ◌<◌, ◌≤◌, min, List, length, take, sym, ◌∙◌, ap, subst, inl, inr, arith}
+use Rattle.std.proofs.lemmas.Bool.{cases_lt}
+use Rattle.std.proofs.lemmas.List.{length-take}
+use Rattle.std.proofs.Math.Nat.{mul-le-mul_left, mul-le-mul_right, mul-add}
+use Rattle.far_objects.specs.Far.{Far}
+use Rattle.far_objects.specs.declared.objects.TheConstants.{MOST}
+use Rattle.far_array.specs.declared.parts.TheConstants.{MOST_BLOCKS}
+use Rattle.far_array.specs.Places.{Kept, Placed, Sound, Wrote}
+
+per_low : (f : Far) (hs : List ℕ) (per size : ℕ) → Placed f hs per size → per ≤ MOST
+per_low f hs per size placed =
+    let m : per * 1 ≤ per * size = mul-le-mul_left {m = 1} {n = size} per (omega (arith, placed.sized)) in omega (arith, m, placed.fits)
+
+-- no number of records is too large to be told
+pub all_fit : (f : Far) (hs : List ℕ) (per size : ℕ) → Placed f hs per size → length hs ≤ MOST_BLOCKS → per * length hs < 2 ^ 63
+all_fit f hs per size placed count =
+    let m : per * length hs ≤ MOST * length hs = mul-le-mul_right (length hs) (per_low f hs per size placed) in omega (arith, m, count)
+
+-- one record more
+module _ (bytes : List ℕ) (f g : Far) (hs gs : List ℕ) (per per2 size size2 len len2 : ℕ) (ep : per2 ≡ per) (es : size2 ≡ size) (el : len2 ≡ len) (sound : Sound f hs per size len) where
+  moved : (n : ℕ) → Sound g gs per size (len + n) → Sound g gs per2 size2 (len2 + n)
+  moved n s = subst (λ (q : ℕ × ℕ × ℕ). Sound g gs q.0 q.1 (q.2 + n)) (λ k. (sym ep k, sym es k, sym el k)) s
+
+  pub put_above_sound : length gs ≡ length hs + 1 → length gs ≤ MOST_BLOCKS → len ≡ per * length hs → Wrote (per * length hs) bytes f g hs gs per size → Sound g gs per2 size2 (len2 + 1)
+  put_above_sound long count full wrote =
+      let e : per * length gs ≡ per * length hs + per * 1 = ap (λ k. per * k) long ∙ mul-add per (length hs) 1 in
+      let some = sound.placed.some in
+      moved 1 (record { placed = wrote.placed; room = omega (arith, e, full, some); few = omega (arith, e, full, some); count = count })
+
+-- fewer records
+module _ (f g : Far) (hs gs : List ℕ) (per size len n m spare : ℕ) (sound : Sound f hs per size len) (kept : Kept f g hs gs per size) (is : gs ≡ take (m + spare) hs)
+    (low : n ≤ len) (room : n ≤ per * m) (few : per * m < n + per) (one : spare ≤ 1) where
+  long : length gs ≡ min (m + spare) (length hs)
+  long = ap (λ (xs : List ℕ). length xs) is ∙ length-take (m + spare) hs
+
+  spared : per * (m + spare) ≡ per * m + per * spare
+  spared = mul-add per m spare
+
+  spare_low : per * spare ≤ per * 1
+  spare_low = mul-le-mul_left per one
+
+  pub less : length gs ≤ length hs
+  less = omega (arith, long)
+
+  less_rooms : per * length gs ≤ per * (m + spare)
+  less_rooms = mul-le-mul_left per (let l : length gs ≤ m + spare = omega (arith, long) in l)
+
+  pub tight : per * length gs < n + per + per * spare
+  tight = omega (arith, less_rooms, spared, few)
+
+  pub has : n ≤ per * length gs
+  has = elim (cases_lt (length hs) (m + spare)) [
+    | inl all ↦ let e : per * length gs ≡ per * length hs = ap (λ k. per * k) (let e : length gs ≡ length hs = omega (arith, long, all) in e) in omega (arith, e, sound.room, low)
+    | inr cut ↦ let e : per * length gs ≡ per * (m + spare) = ap (λ k. per * k) (let e : length gs ≡ m + spare = omega (arith, long, cut) in e) in omega (arith, e, spared, room)
+  ]
+
+  pub cut_sound : Sound g gs per size n
+  cut_sound = record { placed = kept.placed; room = has; few = omega (arith, tight, spare_low); count = omega (arith, less, sound.count) }

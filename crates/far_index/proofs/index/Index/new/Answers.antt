@@ -1,0 +1,7 @@
+use Rattle.std.proofs.Common.{◌≡◌, ap, ◌∙◌}
+use Rattle.far_index.specs.Slots.{slots_of}
+use Rattle.far_index.proofs.Words.{empties}
+use Rattle.far_index.proofs.index.Index.new.Goals as goal
+
+pub returns : goal.returns
+returns c = ap slots_of (c.in_ok-words.ensures.items_if_clones_equal (λ y e. e)) ∙ empties c.args.len

@@ -1,0 +1,10 @@
+pub mod Lookups
+pub mod Encodings
+pub mod Changes
+pub mod Outcomes
+pub mod Told
+pub mod Growth
+pub mod Causes
+pub mod Emptying
+pub mod Fronts
+pub mod PutLast

@@ -1,0 +1,17 @@
+//! A map from bytes to bytes over far objects: near an index of tags, far the entries.
+#![tactic(auto)]
+
+mod buffer;
+mod entry;
+mod grow;
+mod laws;
+mod lookup;
+mod map;
+mod near;
+mod parts;
+mod steps;
+mod whole;
+
+pub use laws::what_was_put_last;
+pub use map::Map;
+pub use whole::Statistics;

@@ -1,0 +1,4 @@
+pub mod Members
+pub mod Outcomes
+pub mod Told
+pub mod Wholes

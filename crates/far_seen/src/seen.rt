@@ -1,0 +1,131 @@
+//! The set.
+
+ghost use Rattle.std.specs.Prelude.{◌≡◌, ◌<◌, true, false, not, Err, IfOk, IfErr, OnOk, OnErr, length};
+ghost use Rattle.std.specs.FinSet as set;
+ghost use Rattle.far_word.specs.declared.refused.Refused.TheVariants.{Length, Memory};
+ghost use Rattle.far_objects.specs.Far.{is_length};
+ghost use Rattle.far_seen.specs.Causes.{IsWhyPut};
+
+use crate::near::Near;
+use crate::parts::Parts;
+use crate::steps::{add, find, make_roomy};
+use far_index::{Index, seeded, slots_for, tag_of_key};
+use far_objects::{MOST, Objects};
+use far_word::Refused;
+use std::alloc::Global;
+use std::marker::Model;
+
+/// A set of lines of 1 to 4,088 bytes, which are the objects of its worker. Near it has a word of 8 bytes a slot.
+#[derive(Drop)]
+pub struct Seen<O: Objects + Drop> {
+    parts: Parts<O>,
+}
+
+impl<O: Objects + Drop> Model for Seen<O> {
+    ghost use Rattle.far_seen.specs.Lines.{Lines, lines_code};
+    ghost use Rattle.far_seen.specs.Parts.{Sound, plain, lines_of};
+
+    ghost Value = { Lines };
+
+    ghost coded = { lines_code };
+
+    ghost view = { λ s. lines_of (plain (O.far s.parts.worker) s.parts.near) };
+
+    ghost invariant = { λ s. Sound (plain (O.far s.parts.worker) s.parts.near) };
+}
+
+/// How many lines an index begins with room for.
+const LINES: usize = 48;
+
+/// So many homes that three quarters of them are these.
+fn homes(lines: usize) -> usize
+    ensures { 0 < result }
+{
+    lines.saturating_add(lines / 3).saturating_add(2)
+}
+
+impl<O: Objects + Drop> Seen<O> {
+    /// An empty set. The seed is for the hash of the lines: who chooses lines mustn't know it. Refused [`Refused::Memory`] alone.
+    pub fn new(alloc: Global, worker: O, seed: [u8; 16]) -> Result<Seen<O>, Refused>
+        ensures honest { IfOk result (λ s. s.honest ≡ (O.far worker).honest) }
+        ensures empty { IfOk result (λ s. s.lines ≡ set.empty) }
+        ensures why { IfErr result (λ why. why ≡ Memory) }
+    {
+        match Seen::with_room(alloc, worker, seed, LINES) {
+            Ok(seen) => Ok(seen),
+            Err(why) => Err(why),
+        }
+    }
+
+    /// The same, with an index that has room for so many lines before it is made anew, twice as large: 11 bytes a line.
+    pub fn with_room(
+        alloc: Global,
+        worker: O,
+        seed: [u8; 16],
+        lines: usize,
+    ) -> Result<Seen<O>, Refused>
+        ensures honest { IfOk result (λ s. s.honest ≡ (O.far worker).honest) }
+        ensures empty { IfOk result (λ s. s.lines ≡ set.empty) }
+        ensures why { IfErr result (λ why. why ≡ Memory) }
+    {
+        let buckets = homes(lines);
+        let Ok(slots) = Index::new(alloc, slots_for(buckets)) else {
+            return Err(Refused::Memory);
+        };
+        let Ok(buffer) = Vec::with_capacity(alloc, MOST) else {
+            return Err(Refused::Memory);
+        };
+        let near = Near {
+            slots,
+            buckets,
+            count: 0,
+            seed: seeded(seed),
+        };
+        Ok(Seen {
+            parts: Parts {
+                worker,
+                near,
+                buffer,
+                alloc,
+            },
+        })
+    }
+
+    /// How many lines it has.
+    pub fn len(&self) -> usize
+        ensures { self.now.honest ≡ true → result ≡ set.len self.now.lines }
+    {
+        self.parts.near.count
+    }
+
+    /// Puts a line. Whether it is the first of its kind. A line that wasn't there costs no far read, unless another one has its tag of 32
+    /// bits and its length.
+    ///
+    /// Refused: [`Refused::Length`] exactly where it hasn't 1 to 4,088 bytes; [`Refused::Memory`] where the index can't grow; or as the
+    /// worker refuses to read or to make an object. Then the set is as it was.
+    pub fn first(&mut self, line: &[u8]) -> Result<bool, Refused>
+        ensures honest { self.new.honest ≡ self.old.honest }
+        ensures first { self.old.honest ≡ true → IfOk result (λ new. new ≡ not (set.contains self.old.lines line.now)) }
+        ensures put { self.old.honest ≡ true → OnOk result (self.new.lines ≡ set.insert self.old.lines line.now) }
+        ensures refused { OnErr result (self.new ≡ self.old) }
+        ensures long { is_length (length line.now) ≡ false → result ≡ Err Length }
+        ensures why { IfErr result (IsWhyPut O.unmade O.unreached self.old.honest (is_length (length line.now))) }
+    {
+        if line.is_empty() || line.len() > MOST {
+            return Err(Refused::Length);
+        }
+        let tag = tag_of_key(&self.parts.near.seed, line);
+        match find(&mut self.parts, tag, line) {
+            Ok(true) => return Ok(false),
+            Ok(false) => {}
+            Err(why) => return Err(why),
+        }
+        match add(&mut self.parts, tag, line) {
+            Ok(()) => {
+                make_roomy(self.parts.alloc, &mut self.parts.near);
+                Ok(true)
+            }
+            Err(why) => Err(why),
+        }
+    }
+}

@@ -1,0 +1,4 @@
+//! Large values over far objects in memory.
+
+mod coming;
+mod refusing;
