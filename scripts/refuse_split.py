@@ -6,7 +6,8 @@ A run must end with status 0 and replies that follow from each mutator's own lin
 memory, as an audit may be, and a round with its counts; or with `memory`, status 1, and nothing written. Both must come, a round and an
 audit that are refused, and the whole output. Prints only what is wrong.
 
-The book's thread begins first, and is alone for a while: so the text asks it for much before and between rounds.
+The book's thread begins first, and is alone for a while: so the text asks it for much before and between rounds. Whether a growth falls
+into a round still depends on when threads come; so growths are refused again until each ending came, at most so often.
 """
 import os
 import re
@@ -40,6 +41,7 @@ audit
 """ % ROUNDS
 REFUSED = re.compile(rb"^refused 1( |$)", re.M)
 RUNS = 4  # of each growth, since threads come in any order
+MOST = 60  # of each growth, where an ending hasn't come
 
 
 def run(program: str, library: str, count: str, refused: int) -> tuple:
@@ -56,12 +58,15 @@ def main() -> int:
         run(program, library, count, 0)
         with open(count, encoding="ascii") as it:
             asked = int(it.read())
-        for refused in range(RUNS * (asked + 2)):
-            status, output, said = run(program, library, count, refused // RUNS)
+        for turn in range(MOST * (asked + 2)):
+            time, refused = divmod(turn, asked + 2)
+            if time >= RUNS and 0 not in endings.values():
+                break
+            status, output, said = run(program, library, count, refused)
             if (status, output, said) == (1, b"", b"memory\n"):
                 endings["memory"] += 1
             elif said or (found := wrong(TEXT, status, output, is_short=True)):
-                print(f"refuse_split: growth {refused // RUNS} of {asked}: status {status}, {said or found}:\n{output.decode()}")
+                print(f"refuse_split: growth {refused} of {asked}: status {status}, {said or found}:\n{output.decode()}")
                 return 1
             else:
                 endings["refused" if REFUSED.search(output) else "whole"] += 1

@@ -2,7 +2,7 @@
 use Rattle.std.specs.Prelude.{◌≡◌, ◌≢◌, ℕ, zero, suc, ◌+◌, ◌*◌, ◌%◌, ◌==◌, ◌<◌, ◌≤◌, Bool, true, false, ◌&&◌, nat_lt, nat_le, Option, Some, None, is_some, filter, IfSome, List, [], length, slice_set, slice_index_or, slice_range, if◌then◌else◌}
 use Rattle.std.specs.Option.{option_map}
 use Rattle.far_word.specs.declared.refused.Refused.{Refused}
-use Rattle.far_word.specs.declared.refused.Refused.TheVariants.{Length, NoPointer, NoRoom, NotHeld, Range}
+use Rattle.far_word.specs.declared.refused.Refused.TheVariants.{EpochsSpent, Length, NoPointer, NoRoom, NotHeld, Range}
 use Rattle.far_word.specs.declared.sizes.TheConstants.{POINTERS}
 use Rattle.far_private.specs.Heap.{is_length}
 use Rattle.far_private.specs.Objects.{Object, bytes_of, len_of, rewritten}
@@ -122,6 +122,7 @@ abbrev pub IsWhyNone : ℕ → Refused → Type 0
 IsWhyNone len Length = is_length len ≡ false
 IsWhyNone len NoPointer = is_length len ≡ true
 IsWhyNone len NoRoom = is_length len ≡ true
+IsWhyNone len EpochsSpent = is_length len ≡ true
 IsWhyNone len why = ⊥
 
 -- ---- what is true of each worker: all heaps are as honest as it is

@@ -79,19 +79,20 @@ record Stored (s u : State) : Type 0 where
   used : u.used ≡ s.used
   cell : u.cell ≡ s.cell
   honest : u.honest ≡ s.honest
+  logs : u.logs ≡ s.logs
 
 stored_none : (s : State) → Stored s s
-stored_none s = record { mutators = refl; used = refl; cell = refl; honest = refl }
+stored_none s = record { mutators = refl; used = refl; cell = refl; honest = refl; logs = refl }
 
 stored_one : (s : State) (m p i w : ℕ) → Stored s (step_of s (Store m p i w)).0
-stored_one s m p i w = cond_both (is_legal s (Store m p i w)) _ _ (λ (x : State × Reply). Stored s x.0) (λ _. record { mutators = refl; used = refl; cell = refl; honest = refl }) (λ _. stored_none s)
+stored_one s m p i w = cond_both (is_legal s (Store m p i w)) _ _ (λ (x : State × Reply). Stored s x.0) (λ _. record { mutators = refl; used = refl; cell = refl; honest = refl; logs = refl }) (λ _. stored_none s)
 
 stored_all : (s : State) (m p first n : ℕ) (new : List ℕ) → Stored s (after_events s (store_events m p first n new))
 stored_all s m p first zero new = stored_none s
 stored_all s m p first (suc n) new =
     let a = stored_one s m p first (packed_word new first) in
     let b = stored_all (step_of s (Store m p first (packed_word new first))).0 m p (first + 1) n new in
-    record { mutators = b.mutators ∙ a.mutators; used = b.used ∙ a.used; cell = b.cell ∙ a.cell; honest = b.honest ∙ a.honest }
+    record { mutators = b.mutators ∙ a.mutators; used = b.used ∙ a.used; cell = b.cell ∙ a.cell; honest = b.honest ∙ a.honest; logs = b.logs ∙ a.logs }
 
 -- a mark that its owner sets changes no object
 soil_same : (s : State) (m p : ℕ) → Law s → Legal s (Soil m p) → (world_of (after s (Soil m p))).object ≡ (world_of s).object
@@ -192,5 +193,6 @@ module _ (t : State) (law : Law t) (p from count : ℕ) (new : List ℕ) (held :
 
     pub written_objects : (v : State) → v ≡ u → objects_of v ≡ with_written p from new (objects_of t)
     written_objects v e = ap objects_of e
-        ∙ ap (λ (b : Bool). record { honest = b; object = λ q. seen b ((world_of u).object q) }) (stored_all soiled (p / CELLS) p (first_word from) (words_touched from count) changed).honest
-        ∙ ap (λ (f : ℕ → Option Object). record { honest = t.honest; object = f }) (fun_ext seen_then)
+        ∙ ap (λ (b : Bool). record { honest = b; logs = u.logs; object = λ q. seen b ((world_of u).object q) }) (stored_all soiled (p / CELLS) p (first_word from) (words_touched from count) changed).honest
+        ∙ ap (λ (n : ℕ). record { honest = t.honest; logs = n; object = λ q. seen t.honest ((world_of u).object q) }) (stored_all soiled (p / CELLS) p (first_word from) (words_touched from count) changed).logs
+        ∙ ap (λ (f : ℕ → Option Object). record { honest = t.honest; logs = t.logs; object = f }) (fun_ext seen_then)

@@ -38,11 +38,12 @@ use Rattle.far_book.proofs.region.MovesReached.{moving, staying}
 use Rattle.far_book.proofs.region.ReachingFar.{fetching}
 use Rattle.far_alone.specs.Dereference.{says_near}
 use Rattle.far_alone.proofs.Bringing.{KeepsOwners, SaysFar, SaysNear, far_is, fetched_keeps, moved_keeps, near_is, stayed_keeps}
-use Rattle.far_private.specs.Causes.{IsCrowded, StaysFar, WhyFar}
+use Rattle.far_private.specs.Causes.{IsCrowded, IsWant, StaysFar, WhyFar}
 use Rattle.far_private.specs.Objects.{Settled, objects_of, seen}
 use Rattle.far_private.specs.Steps.{Keeps}
 use Rattle.far_private.proofs.Keeping.{honest_as, honest_by, keeps_both, keeps_none, same_objects, same_world}
 use Rattle.far_private.proofs.Resting.{ask_keeps, ask_legal}
+use Rattle.far_private.proofs.SameLogs.{fetched_logs, moved_logs, stayed_logs}
 
 -- ---- a step that leaves owners, and gives one object another home
 named_but : (s t : State) (p : ℕ) → s.cell p ≢ 0 → ((q : ℕ) → q ≢ p → t.cell q ≡ s.cell q) → (q : ℕ) → s.cell q ≡ 0 → t.cell q ≡ 0
@@ -57,19 +58,19 @@ rests_in o len ds place dirty e = subst (λ x. IsSome (place_to_view x)) (sym e)
 
 -- ---- a near object
 module _ (s : State) (p : ℕ) (law : Law s) (settled : Settled s) (used : s.used p ≡ true) (near : says_near (read_of (s.cell p)) ≡ true) where
-  said : SaysNear (read_of (s.cell p))
+  pub said : SaysNear (read_of (s.cell p))
   said = near_is (read_of (s.cell p)) near
 
-  abbrev asks : State
+  abbrev pub asks : State
   asks = after s (Ask (p / CELLS) p Moved)
 
-  asks_law : Law asks
+  pub asks_law : Law asks
   asks_law = keeps s (Ask (p / CELLS) p Moved) law tt (ask_legal s law settled p used)
 
-  asked_read : read_of (asks.cell p) ≡ Some (Near said.len said.ds said.place (marks_with Moved said.marks))
+  pub asked_read : read_of (asks.cell p) ≡ Some (Near said.len said.ds said.place (marks_with Moved said.marks))
   asked_read = ap read_of (put_same s.cell p _ p refl) ∙ (read_mark Moved (s.cell p) refl (law.cells.cell_read p).0 (law.views.used_cell p used)).0 ∙ ap (map_mark Moved) said.is
 
-  kept : said.marks.dropped ≡ false
+  pub kept : said.marks.dropped ≡ false
   kept = not-true said.marks.dropped (sym (ap in_use said.is) ∙ law.views.used_cell p used)
 
   asks_busy : asks.cell p ≢ 0
@@ -82,7 +83,7 @@ module _ (s : State) (p : ℕ) (law : Law s) (settled : Settled s) (used : s.use
       let way = moving asks p said.len said.ds said.place place (marks_with Moved said.marks) asks_law asked_read refl kept evac there in
       let world : Moves (world_of asks) p place.log (world_of (moved asks p place)) = way.2 in
       keeps_by asks (moved asks p place) p asks_busy (moved_keeps asks p place (read_of (asks.cell p)))
-      (same_objects asks (moved asks p place) (honest_as asks (moved asks p place) (ap (λ (w : World). w.honest) world.moved.4)) (λ q.
+      (same_objects asks (moved asks p place) (honest_as asks (moved asks p place) (ap (λ (w : World). w.honest) world.moved.4)) (moved_logs asks p place (read_of (asks.cell p))) (λ q.
       ap (λ (w : World). seen asks.honest (w.object q)) world.moved.4
       ∙ put_both (λ x. seen asks.honest x ≡ seen asks.honest ((world_of asks).object q)) (world_of asks).object p _ q
       (λ at. sym (ap (seen asks.honest) (ap (world_of asks).object at ∙ world.moved.2))) (λ _. refl)))
@@ -93,7 +94,7 @@ module _ (s : State) (p : ℕ) (law : Law s) (settled : Settled s) (used : s.use
       let way = staying asks p said.len said.ds said.place (marks_with Moved said.marks) asks_law asked_read refl kept evac in
       let world : Unmarks (world_of asks) p (world_of (stayed asks p)) = way.2 in
       keeps_by asks (stayed asks p) p asks_busy (stayed_keeps asks p (read_of (asks.cell p)))
-      (same_world asks (stayed asks p) (honest_as asks (stayed asks p) (ap (λ (w : World). w.honest) world)) (ap (λ (w : World). w.object) world))
+      (same_world asks (stayed asks p) (honest_as asks (stayed asks p) (ap (λ (w : World). w.honest) world)) (stayed_logs asks p (read_of (asks.cell p))) (ap (λ (w : World). w.object) world))
 
   -- a view may rest there then
   goes_rests : (place : Place) → said.marks.evac ≡ true → goal asks p ≡ Some place → IsSome (place_to_view (read_of ((moved asks p place).cell p)))
@@ -107,7 +108,7 @@ module _ (s : State) (p : ℕ) (law : Law s) (settled : Settled s) (used : s.use
       let way = staying asks p said.len said.ds said.place (marks_with Moved said.marks) asks_law asked_read refl kept evac in
       rests_in (read_of ((stayed asks p).cell p)) said.len said.ds said.place (is_dirty (read_of (asks.cell p))) way.3.cell
 
-  evac_is : has_evac (read_of (asks.cell p)) ≡ said.marks.evac
+  pub evac_is : has_evac (read_of (asks.cell p)) ≡ said.marks.evac
   evac_is = ap has_evac asked_read
 
   comes : (place : Place) → goal asks p ≡ Some place → Keeps asks (moved_now asks p place)
@@ -128,7 +129,7 @@ module _ (s : State) (p : ℕ) (law : Law s) (settled : Settled s) (used : s.use
   -- or there is no room for it
   pub near_crowded : (v t : State) (why : Refused) → v ≡ asks → t ≡ v → why ≡ NoRoom → goal v p ≡ None → IsCrowded t p why
   near_crowded v t why is same e none = record {
-    is = e;
+    is = subst IsWant (sym e) tt;
     near = ap (λ (x : State). says_near (read_of (x.cell p))) (same ∙ is) ∙ ap says_near asked_read;
     none = ap (λ (x : State). goal x p) same ∙ none;
   }
@@ -173,7 +174,7 @@ module _ (s : State) (p : ℕ) (law : Law s) (used : s.used p ≡ true) (far : s
       let (o, bytes, there, home, count, small, honest, after) = world.come in
       let next : State = fetched s p place row in
       let u : Thing = record { owner = o.owner; ds = o.ds; bytes = bytes; home = Group place.log } in
-      let as_seen : objects_of next ≡ objects_of s = same_objects s next (honest_as s next (ap (λ (w : World). w.honest) after)) (λ q.
+      let as_seen : objects_of next ≡ objects_of s = same_objects s next (honest_as s next (ap (λ (w : World). w.honest) after)) (fetched_logs s p place row) (λ q.
       ap (λ (w : World). seen s.honest (w.object q)) after
       ∙ put_both (λ x. seen s.honest x ≡ seen s.honest ((world_of s).object q)) (world_of s).object p (Some u) q
       (λ at. seen_as s.honest o u refl count (honest_by s honest) ∙ sym (ap (seen s.honest) (ap (world_of s).object at ∙ there))) (λ _. refl)) in

@@ -6,10 +6,10 @@ use Rattle.far_private.specs.Heap.{Heap, access_refusal, bytes_in, is_length, le
 use Rattle.far_private.specs.HeapLaws.{Call, Drops, Makes, MakesWith, Reads, Writes, byte_in, last_said, last_shape}
 
 abbrev free : Heap
-free = record { honest = true; objects = None ∷ None ∷ None ∷ [] }
+free = record { honest = true; logs = 4; objects = None ∷ None ∷ None ∷ [] }
 
 abbrev unsure : Heap
-unsure = record { honest = false; objects = None ∷ None ∷ None ∷ [] }
+unsure = record { honest = false; logs = 4; objects = None ∷ None ∷ None ∷ [] }
 
 abbrev two : Heap
 two = with_written 1 1 (5 ∷ 6 ∷ []) (with_made 2 8 (4 ∷ 3 ∷ []) (with_new 1 3 7 free))

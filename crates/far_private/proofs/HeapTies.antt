@@ -7,7 +7,7 @@ use Rattle.std.proofs.lemmas.Bool.Decides.{nat_tests}
 use Rattle.std.proofs.lemmas.List.{get_or-set_other, get_or-set_same, get_or_past, length-set}
 use Rattle.std.proofs.lemmas.List.FromFn.{fill_by_all, get_or-map-range_with_len, length-map-range_with_len}
 use Rattle.far_word.specs.declared.refused.Refused.{Refused}
-use Rattle.far_word.specs.declared.refused.Refused.TheVariants.{Damaged, Device, Length, Memory, NoPointer, NoRoom, NotHeld, Range}
+use Rattle.far_word.specs.declared.refused.Refused.TheVariants.{Damaged, Device, EpochsSpent, Length, Memory, NoPointer, NoRoom, NotHeld, Range}
 use Rattle.far_word.specs.declared.sizes.TheConstants.{LONGEST, POINTERS}
 use Rattle.far_core.specs.state.State.{put}
 use Rattle.far_core.proofs.Put.{put_other, put_same}
@@ -21,17 +21,17 @@ pub length-row : (n : ℕ) (f : ℕ → Option Object) → length (row n f) ≡ 
 unfolding row
 length-row n f = length-map-range_with_len f 0 n
 
-row_at : (n : ℕ) (f : ℕ → Option Object) (p : ℕ) → p < n → object record { honest = true; objects = row n f } p ≡ f p
+row_at : (n : ℕ) (f : ℕ → Option Object) (p : ℕ) → p < n → object record { honest = true; logs = 0; objects = row n f } p ≡ f p
 unfolding row
 row_at n f p lt = let here : 0 + p ≡ p = omega arith in get_or-map-range_with_len f 0 n p p None lt here
 
-row_filled : (n : ℕ) (f : ℕ → Option Object) (xs : List (Option Object)) → length xs ≡ n → ((p : ℕ) → p < n → object record { honest = true; objects = xs } p ≡ f p) → xs ≡ row n f
+row_filled : (n : ℕ) (f : ℕ → Option Object) (xs : List (Option Object)) → length xs ≡ n → ((p : ℕ) → p < n → object record { honest = true; logs = 0; objects = xs } p ≡ f p) → xs ≡ row n f
 unfolding row
 row_filled n f xs long each = fill_by_all f xs n None long each
 
 row_put : (n : ℕ) (f : ℕ → Option Object) (p : ℕ) (x : Option Object) → slice_set (row n f) p x ≡ row n (put f p x)
 row_put n f p x = row_filled n (put f p x) (slice_set (row n f) p x) (length-set (row n f) p x ∙ length-row n f) (λ q lt. elim (cases_eq q p) [
-  | inl e ↦ ap (λ k. object record { honest = true; objects = slice_set (row n f) p x } k) e ∙ get_or-set_same (row n f) p x None (omega (arith, length-row n f)) ∙ sym (put_same f p x q e)
+  | inl e ↦ ap (λ k. object record { honest = true; logs = 0; objects = slice_set (row n f) p x } k) e ∙ get_or-set_same (row n f) p x None (omega (arith, length-row n f)) ∙ sym (put_same f p x q e)
   | inr ne ↦ get_or-set_other (row n f) p q x None ne ∙ row_at n f q lt ∙ sym (put_other f p x q ne)
 ])
 
@@ -47,7 +47,7 @@ object_is o ends p = elim (cases_lt p POINTERS) [
 ]
 
 pub put_is : (o : Objects) (p : ℕ) (x : Option Object) → heap_of record o { object = put o.object p x } ≡ with_object p x (heap_of o)
-put_is o p x = ap (λ l. record { honest = o.honest; objects = l }) (sym (row_put POINTERS o.object p x))
+put_is o p x = ap (λ l. record { honest = o.honest; logs = o.logs; objects = l }) (sym (row_put POINTERS o.object p x))
 
 -- a pointer that got an object has it
 pub new_at : (u o : Objects) (p : ℕ) (x : Object) → p < POINTERS → u ≡ record o { object = put o.object p (Some x) } → object (heap_of u) p ≡ Some x
@@ -112,6 +112,7 @@ refused_first a b = if a then (if b then None else Some Range) else Some NotHeld
 outside_why : (honest : Bool) (why : Refused) → IsOutside honest why → IsWhyNoAccess honest None why
 outside_why honest Memory h = (refl, tt)
 outside_why honest NoRoom h = (refl, tt)
+outside_why honest EpochsSpent h = (refl, tt)
 outside_why honest Device h = (refl, tt)
 outside_why honest Damaged h = (refl, h)
 outside_why honest _ h = absurd h

@@ -18,13 +18,14 @@ unfolding world_of
 honest_by s f h = f h
 
 -- ---- what is seen of two states is one
-pub same_objects : (s t : State) → t.honest ≡ s.honest → ((p : ℕ) → seen s.honest ((world_of t).object p) ≡ seen s.honest ((world_of s).object p)) → objects_of t ≡ objects_of s
-same_objects s t h e =
-    ap (λ (b : Bool). record { honest = b; object = λ p. seen b ((world_of t).object p) }) h
-    ∙ ap (λ (f : ℕ → Option Object). record { honest = s.honest; object = f }) (fun_ext e)
+pub same_objects : (s t : State) → t.honest ≡ s.honest → t.logs ≡ s.logs → ((p : ℕ) → seen s.honest ((world_of t).object p) ≡ seen s.honest ((world_of s).object p)) → objects_of t ≡ objects_of s
+same_objects s t h n e =
+    ap (λ (b : Bool). record { honest = b; logs = t.logs; object = λ p. seen b ((world_of t).object p) }) h
+    ∙ ap (λ (k : ℕ). record { honest = s.honest; logs = k; object = λ p. seen s.honest ((world_of t).object p) }) n
+    ∙ ap (λ (f : ℕ → Option Object). record { honest = s.honest; logs = s.logs; object = f }) (fun_ext e)
 
-pub same_world : (s t : State) → t.honest ≡ s.honest → (world_of t).object ≡ (world_of s).object → objects_of t ≡ objects_of s
-same_world s t h e = same_objects s t h (λ p. ap (λ (f : ℕ → Option Thing). seen s.honest (f p)) e)
+pub same_world : (s t : State) → t.honest ≡ s.honest → t.logs ≡ s.logs → (world_of t).object ≡ (world_of s).object → objects_of t ≡ objects_of s
+same_world s t h n e = same_objects s t h n (λ p. ap (λ (f : ℕ → Option Thing). seen s.honest (f p)) e)
 
 pub keeps_none : (s : State) → Keeps s s
 keeps_none s = record { mutators = refl; used = refl; named = λ p e. e; objects = refl; scope = refl; remembered = refl }
@@ -65,5 +66,5 @@ round_keeps s t named k = record {
   named = named;
   scope = k.scope;
   remembered = k.remembered;
-  objects = same_objects s t k.honest (λ p. seen_anywhere s.honest ((world_of t).object p) ((world_of s).object p) (k.object p));
+  objects = same_objects s t k.honest k.logs (λ p. seen_anywhere s.honest ((world_of t).object p) ((world_of s).object p) (k.object p));
 }

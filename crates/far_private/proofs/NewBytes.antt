@@ -32,7 +32,7 @@ pub made_is : (o : Objects) (p ds : ℕ) (bytes : List ℕ) → with_written p 0
 made_is o p ds bytes =
     let zeros : Object = record { len = length bytes; ds = ds; bytes = known o.honest (replicate (length bytes) 0) } in
     let f : ℕ → Option Object = put o.object p (Some zeros) in
-    ap (λ (x : ℕ → Option Object). record { honest = o.honest; object = x })
+    ap (λ (x : ℕ → Option Object). record { honest = o.honest; logs = o.logs; object = x })
     (put_put o.object p (Some zeros) (option_map (rewritten 0 bytes) (f p))
     ∙ ap (λ (x : Option Object). put o.object p (option_map (rewritten 0 bytes) x)) (put_same o.object p (Some zeros) p refl)
     ∙ ap (λ (x : Object). put o.object p (Some x)) (made_seen o.honest ds bytes))

@@ -2,18 +2,25 @@
 use Rattle.std.proofs.Common.{◌≡◌, ℕ, Bool, Option, Some, None, List, Result, Ok, Err, inl, inr, ap, sym, subst, ◌∙◌}
 use Rattle.std.specs.Prelude.{IfErr}
 use Rattle.far_word.specs.declared.refused.Refused.{Refused}
-use Rattle.far_word.specs.declared.refused.Refused.TheVariants.{Damaged, Device, Memory, NoRoom}
+use Rattle.far_word.specs.declared.refused.Refused.TheVariants.{Damaged, Device, EpochsSpent, Memory, NoRoom}
 use Rattle.far_core.specs.state.State.{State}
 use Rattle.far_device.specs.declared.fault.DeviceFault.{DeviceFault}
-use Rattle.far_private.specs.Causes.{StaysAway, StaysFar, WhyFar}
+use Rattle.far_private.specs.Causes.{IsWant, StaysAway, StaysFar, WhyFar}
 use Rattle.far_private.specs.Heap.{IsOutside}
 use Rattle.far_private.specs.Objects.{Objects}
 use Rattle.far_private.specs.Steps.{Keeps}
+
+-- what is refused for want of room
+want_outside : (honest : Bool) (why : Refused) → IsWant why → IsOutside honest why
+want_outside honest NoRoom want = tt
+want_outside honest EpochsSpent want = tt
+want_outside honest _ want = absurd want
 
 module _ {D : Type 0} (reads : D → ℕ → Result (List ℕ) DeviceFault → D → Type 0) (s : State) (p : ℕ) (device : D) where
   why_outside : (why : Refused) → WhyFar D reads s p device why → IsOutside s.honest why
   why_outside Memory h = tt
   why_outside NoRoom h = tt
+  why_outside EpochsSpent h = tt
   why_outside Device h = tt
   why_outside Damaged h = h.1
   why_outside _ h = absurd h
@@ -25,7 +32,7 @@ module _ {D : Type 0} (reads : D → ℕ → Result (List ℕ) DeviceFault → D
   -- or a near one that can't be moved
   pub away_outside : (why : Refused) → StaysAway D reads s p device why → IsOutside s.honest why
   away_outside why (inl far) = far_outside why far
-  away_outside why (inr crowded) = subst (IsOutside s.honest) (sym crowded.is) tt
+  away_outside why (inr crowded) = want_outside s.honest why crowded.is
 
 -- what is told after calls that callers don't see holds as the heap stood before
 pub outside_before : (s t : State) → Keeps s t → (why : Refused) → IsOutside t.honest why → IsOutside s.honest why

@@ -48,6 +48,7 @@ use Rattle.far_private.specs.Steps.{Keeps}
 use Rattle.far_private.specs.declared.free_pointers.FreePointers.{FreePointers}
 use Rattle.far_private.proofs.Beginning.{begins_none, begins_settled}
 use Rattle.far_private.proofs.Resting.{unheld_now}
+use Rattle.far_private.proofs.SameLogs.{placed_logs}
 
 -- ---- what a naming leaves of owners
 record Owns (s t : State) : Type 0 where
@@ -118,8 +119,9 @@ module _ (s : State) (p len ds : ℕ) (place : Place) (law : Law s) (settled : S
 
   placed_objects : objects_of t ≡ with_new p len ds (objects_of s)
   placed_objects =
-      ap (λ (b : Bool). record { honest = b; object = λ q. seen b ((world_of t).object q) }) (honest_as s t (ap (λ (w : World). w.honest) world.after))
-      ∙ ap (λ (f : ℕ → Option Object). record { honest = s.honest; object = f }) (fun_ext new_seen)
+      ap (λ (b : Bool). record { honest = b; logs = t.logs; object = λ q. seen b ((world_of t).object q) }) (honest_as s t (ap (λ (w : World). w.honest) world.after))
+      ∙ ap (λ (n : ℕ). record { honest = s.honest; logs = n; object = λ q. seen s.honest ((world_of t).object q) }) (placed_logs s p len ds place)
+      ∙ ap (λ (f : ℕ → Option Object). record { honest = s.honest; logs = s.logs; object = f }) (fun_ext new_seen)
 
   adopted_same : (x : State) → objects_of (after x (Adopt (p / CELLS) p)) ≡ objects_of x
   unfolding world_of
@@ -202,8 +204,9 @@ module _ (s : State) (p : ℕ) (law : Law s) (settled : Settled s) (used : s.use
 
   gone_objects : objects_of (retired asked p) ≡ without p (objects_of s)
   gone_objects =
-      ap (λ (b : Bool). record { honest = b; object = λ q. seen b ((world_of (retired asked p)).object q) }) gone_honest
-      ∙ ap (λ (f : ℕ → Option Object). record { honest = s.honest; object = f }) (fun_ext gone_seen)
+      ap (λ (b : Bool). record { honest = b; logs = (retired asked p).logs; object = λ q. seen b ((world_of (retired asked p)).object q) }) gone_honest
+      ∙ ap (λ (n : ℕ). record { honest = s.honest; logs = n; object = λ q. seen s.honest ((world_of (retired asked p)).object q) }) (ap (λ (x : State). x.logs) gone_is)
+      ∙ ap (λ (f : ℕ → Option Object). record { honest = s.honest; logs = s.logs; object = f }) (fun_ext gone_seen)
 
   gone_settled : Settled (with_free_cell asked p)
   gone_settled = record {

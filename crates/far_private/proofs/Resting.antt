@@ -40,7 +40,7 @@ reworded_keeps s p word busy same = record {
   mutators = refl;
   used = refl;
   named = cell_busy s p word busy;
-  objects = same_world s (with_cell s p word) refl same;
+  objects = same_world s (with_cell s p word) refl refl same;
   scope = refl;
   remembered = refl;
 }

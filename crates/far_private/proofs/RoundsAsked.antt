@@ -19,7 +19,7 @@ spent_by true why e = let same : Some refusals.EpochsSpent ≡ Some why = e in c
 spent_by false why e = absurd cc
 
 -- where no round stands, only the epochs keep one from beginning
-spent_is : (m : Moment) (why : Refused) → m.phase ≡ Idle → unselectable m ≡ Some why → why ≡ refusals.EpochsSpent
+pub spent_is : (m : Moment) (why : Refused) → m.phase ≡ Idle → unselectable m ≡ Some why → why ≡ refusals.EpochsSpent
 spent_is m why idle e = spent_by (is_spent m.core) why (sym (ap (λ p. cond (is_idle p) (cond (is_spent m.core) (Some refusals.EpochsSpent) None) (Some refusals.Phase)) idle) ∙ e)
 
 pub no_round : {P : Type 0} (gives : P → List LogRow → ℕ → Result (List ℕ) Refused → P → Type 0) (policy later : P) (rows : List LogRow) (most : ℕ) (why : Refused) (m : Moment) (result : Result (List ℕ) Refused) → m.phase ≡ Idle →

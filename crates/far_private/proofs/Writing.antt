@@ -37,7 +37,7 @@ closed_same s m = refl
 module _ (s : State) (law : Law s) (m p : ℕ) (rest : IsAtRest s m p) where
   three_objects : objects_of (three s law m p rest) ≡ objects_of s
   unfolding world_of
-  three_objects = ap (λ (w : World). record { honest = s.honest; object = λ q. seen s.honest (w.object q) }) (hot_world s law p rest.used)
+  three_objects = ap (λ (w : World). record { honest = s.honest; logs = s.logs; object = λ q. seen s.honest (w.object q) }) (hot_world s law p rest.used)
 
 module _ (s : State) (law : Law s) (settled : Settled s) (p from : ℕ) (new : List ℕ) (used : s.used p ≡ true) (rests : IsSome (place_to_view (read_of (s.cell p)))) (some : 0 < length new)
     (inside : from + length new ≤ len_in (objects_of s) p) (most : from + length new ≤ LONGEST) (small : AreBytes new) where

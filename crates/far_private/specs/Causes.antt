@@ -1,7 +1,7 @@
 -- Why calls are refused, as the heap and its device stand once they are.
-use Rattle.std.specs.Prelude.{◌≡◌, ◌≢◌, ◌⊎◌, ℕ, ◌+◌, ◌<◌, ◌≤◌, true, false, None, IsSome, List, length, Result, Ok, Err}
+use Rattle.std.specs.Prelude.{◌≡◌, ◌≢◌, ◌⊎◌, ℕ, ◌+◌, ◌<◌, ◌≤◌, true, false, Option, Some, None, IsSome, IfSome, List, length, Result, Ok, Err}
 use Rattle.far_word.specs.declared.refused.Refused.{Refused}
-use Rattle.far_word.specs.declared.refused.Refused.TheVariants.{Damaged, Device, Memory, NoRoom}
+use Rattle.far_word.specs.declared.refused.Refused.TheVariants.{Damaged, Device, EpochsSpent, Memory, NoRoom}
 use Rattle.far_word.specs.declared.sizes.TheConstants.{LOG_WORDS}
 use Rattle.far_word.specs.Pointer.{read_of}
 use Rattle.far_core.specs.state.Room.{free_logs, room}
@@ -11,6 +11,7 @@ use Rattle.far_device.specs.declared.fault.DeviceFault.TheVariants as fault
 use Rattle.far_book.specs.book.Dealing.{goal}
 use Rattle.far_book.specs.book.Fetching.{far_len, room_for}
 use Rattle.far_alone.specs.Dereference.{says_near}
+use Rattle.far_private.specs.Objects.{Object, objects_of}
 
 -- no log has room for so many words of a new object, or of one that is to come: the open log ends before it, and one log at most is free, which is left to moves
 pub record IsFullFor (s : State) (size : ℕ) : Type 0 where
@@ -21,9 +22,20 @@ pub record IsFullFor (s : State) (size : ℕ) : Type 0 where
 abbrev pub NoRoomIsFull : Type 0
 NoRoomIsFull = (s : State) (size : ℕ) → room s size true ≡ None → IsFullFor s size
 
+-- the refusals of a call that has no room: none is left once rounds were made; or no round can be made, since 2^62 were
+abbrev pub IsWant : Refused → Type 0
+IsWant NoRoom = Unit {0}
+IsWant EpochsSpent = Unit {0}
+IsWant why = ⊥
+
+-- what a call that found no room answers, by what its last round came to
+abbrev pub told : Refused → Result (Unit {0}) Refused → Refused
+told NoRoom (Err last) = last
+told why made = why
+
 -- a near object is to move, and no log has room for it, not even the last free one
 pub record IsCrowded (s : State) (p : ℕ) (why : Refused) : Type 0 where
-  pub is : why ≡ NoRoom
+  pub is : IsWant why
   pub near : says_near (read_of (s.cell p)) ≡ true
   pub none : goal s p ≡ None
 
@@ -32,6 +44,7 @@ module _ (D : Type 0) (reads : D → ℕ → Result (List ℕ) DeviceFault → D
   -- which had this fault, or gave more or fewer bytes than the object has, as no honest far side does
   abbrev pub WhyFar : State → ℕ → D → Refused → Type 0
   WhyFar s p device NoRoom = room_for s p ≡ None
+  WhyFar s p device EpochsSpent = room_for s p ≡ None
   WhyFar s p device Memory = IsSome (room_for s p) × (before : D) × reads before p (Err fault.Memory) device
   WhyFar s p device Device = IsSome (room_for s p) × (before : D) × reads before p (Err fault.Device) device
   WhyFar s p device Damaged = IsSome (room_for s p) × (s.honest ≡ false) × (before : D) × (bytes : List ℕ) × reads before p (Ok bytes) device × (length bytes ≢ far_len (read_of (s.cell p)))
@@ -45,3 +58,24 @@ module _ (D : Type 0) (reads : D → ℕ → Result (List ℕ) DeviceFault → D
   -- an object doesn't come to where it may be held
   abbrev pub StaysAway : State → ℕ → D → Refused → Type 0
   StaysAway s p device why = StaysFar s p device why ⊎ IsCrowded s p why
+
+-- ---- what a user may know of it: the device was asked to take an object as it is, and refused
+module _ (D : Type 0) (writes : D → ℕ → List ℕ → Result (Unit {0}) DeviceFault → D → Type 0) where
+  pub record IsNotTaken (object : ℕ → Option Object) : Type 0 where
+    pub pointer : ℕ
+    pub is : Object
+    pub found : object pointer ≡ Some is
+    -- its bytes; which they are is known over an honest far side
+    pub bytes : List ℕ
+    pub long : length bytes ≡ is.len
+    pub own : IfSome is.bytes (λ all. bytes ≡ all)
+    -- the write that was refused
+    pub before : D
+    pub fault : DeviceFault
+    pub after : D
+    pub refused : writes before pointer bytes (Err fault) after
+
+  -- a heap of three logs or more has no room only then
+  abbrev pub IsStuck : State → Refused → Type 0
+  IsStuck s NoRoom = 3 ≤ s.logs → IsNotTaken (objects_of s).object
+  IsStuck s why = Unit {0}

@@ -2,13 +2,14 @@
 use Rattle.std.specs.Prelude.{◌≡◌, ℕ, ◌+◌, ◌<◌, ◌≤◌, ◌&&◌, nat_lt, nat_le, Bool, true, false, Option, Some, None, is_some, IsSome, List, length, replicate, slice_index, slice_index_or, slice_set, if◌then◌else◌}
 use Rattle.std.specs.Option.{option_map}
 use Rattle.far_word.specs.declared.refused.Refused.{Refused}
-use Rattle.far_word.specs.declared.refused.Refused.TheVariants.{Damaged, Device, Length, Memory, NoPointer, NoRoom, NotHeld, Range}
+use Rattle.far_word.specs.declared.refused.Refused.TheVariants.{Damaged, Device, EpochsSpent, Length, Memory, NoPointer, NoRoom, NotHeld, Range}
 use Rattle.far_word.specs.declared.sizes.TheConstants.{LONGEST, POINTERS}
 use Rattle.far_private.specs.Objects.{Object, bytes_of, known, len_of, rewritten}
 
--- whether the far side is honest; and the object of each of the 2,048 pointers, none where the pointer is free
+-- whether the far side is honest; of how many logs it was made; and the object of each of the 2,048 pointers, none where the pointer is free
 pub record Heap : Type 0 where
   pub honest : Bool
+  pub logs : ℕ
   pub objects : List (Option Object)
 
 -- the object of a pointer; a number that is none of the heap's pointers has none
@@ -67,10 +68,11 @@ is_logs logs = nat_le 2 logs && nat_le logs 64
 abbrev pub access_refusal : Heap → ℕ → ℕ → ℕ → Option Refused
 access_refusal h p from count = if has h p then (if nat_lt 0 count && nat_le (from + count) (len_in h p) then None else Some Range) else Some NotHeld
 
--- an access that may be made is refused where no log has room for a far object after so many rounds, or where the far side fails it; an honest one never gives other bytes than it should
+-- an access that may be made is refused where no log has room for a far object after so many rounds, or none could be freed since 2^62 rounds were made, or where the far side fails it; an honest one never gives other bytes than it should
 abbrev pub IsOutside : Bool → Refused → Type 0
 IsOutside honest Memory = Unit {0}
 IsOutside honest NoRoom = Unit {0}
+IsOutside honest EpochsSpent = Unit {0}
 IsOutside honest Device = Unit {0}
 IsOutside honest Damaged = honest ≡ false
 IsOutside honest why = ⊥
@@ -81,7 +83,7 @@ IsWhyNoAccess honest o NotHeld = o ≡ Some NotHeld
 IsWhyNoAccess honest o Range = o ≡ Some Range
 IsWhyNoAccess honest o why = (o ≡ None) × IsOutside honest why
 
--- ---- when no object is made: its length is none that an object has; or each pointer has an object; or no log has room after so many rounds
+-- ---- when no object is made: its length is none that an object has; or each pointer has an object; or no log has room after so many rounds, or none could be freed since 2^62 were made
 abbrev pub is_length : ℕ → Bool
 is_length len = nat_lt 0 len && nat_le len LONGEST
 
@@ -96,6 +98,7 @@ abbrev pub IsWhyNoObject : Heap → ℕ → Refused → Type 0
 IsWhyNoObject h len Length = is_length len ≡ false
 IsWhyNoObject h len NoPointer = (is_length len ≡ true) × IsFull h
 IsWhyNoObject h len NoRoom = (is_length len ≡ true) × HasFree h
+IsWhyNoObject h len EpochsSpent = (is_length len ≡ true) × HasFree h
 IsWhyNoObject h len why = ⊥
 
 -- ---- what holds between any two calls

@@ -12,7 +12,7 @@ unfoldable pub row : {X : Type 0} → ℕ → (ℕ → X) → List X
 row n f = map f (range_with_len 0 n)
 
 abbrev pub heap_of : Objects → Heap
-heap_of o = record { honest = o.honest; objects = row POINTERS o.object }
+heap_of o = record { honest = o.honest; logs = o.logs; objects = row POINTERS o.object }
 
 abbrev pub heap_in : {D : Type 0} → EvacOf Plain D → Heap
 heap_in evac = heap_of (objects_in evac)

@@ -3,6 +3,7 @@ pub mod FreePointers
 pub mod Objects
 pub mod Steps
 pub mod Causes
+pub mod LastRound
 pub mod Laws
 pub mod Heap
 pub mod HeapOf

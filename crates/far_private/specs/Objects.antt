@@ -17,9 +17,10 @@ pub record Object : Type 0 where
   pub ds : ℕ
   pub bytes : Option (List ℕ)
 
--- whether the far side is honest; and the object of each pointer, none where the pointer is free
+-- whether the far side is honest; how many logs there are; and the object of each pointer, none where the pointer is free
 pub record Objects : Type 0 where
   pub honest : Bool
+  pub logs : ℕ
   pub object : ℕ → Option Object
 
 abbrev pub known : Bool → List ℕ → Option (List ℕ)
@@ -32,7 +33,7 @@ seen honest (Some o) = Some record { len = length o.bytes; ds = o.ds; bytes = kn
 
 -- those of a state
 abbrev pub objects_of : State → Objects
-objects_of s = record { honest = s.honest; object = λ p. seen s.honest ((world_of s).object p) }
+objects_of s = record { honest = s.honest; logs = s.logs; object = λ p. seen s.honest ((world_of s).object p) }
 
 -- the state of the core that an evacuator's book has in its hand
 abbrev pub state_in : {D : Type 0} → EvacOf Plain D → State

@@ -1,16 +1,18 @@
 //! How an object comes to where it may be read and written.
 
-ghost use Rattle.std.specs.Prelude.{◌≡◌, true, false, IsSome, IfErr, OnOk};
+ghost use Rattle.std.specs.Prelude.{◌≡◌, ◌≢◌, ◌≤◌, true, false, length, IsSome, IfErr, OnOk};
 ghost use Rattle.far_word.specs.declared.refused.Refused.TheVariants.{NoRoom as no_room};
 ghost use Rattle.far_word.specs.Pointer.{read_of};
 ghost use Rattle.far_core.specs.events.Pin.{place_to_view};
+ghost use Rattle.far_core.specs.state.Room.{free_logs};
 ghost use Rattle.far_alone.specs.Dereference.{says_near};
-ghost use Rattle.far_private.specs.Causes.{IsCrowded, StaysAway, StaysFar};
+ghost use Rattle.far_private.specs.Causes.{IsCrowded, IsStuck, StaysAway, StaysFar};
 ghost use Rattle.far_private.specs.Objects.{Settled, state_in};
 ghost use Rattle.far_private.specs.Steps.{Keeps};
 
 use crate::budget::Rounds;
 use crate::cells::{core_of, is_near, rests};
+use crate::last::{last_round, told};
 use far_book::Plain;
 use far_device::Device;
 use far_evac::Evac;
@@ -27,6 +29,7 @@ pub(crate) fn bring_to_rest<D: Device + Drop>(
     ensures keeps { Keeps (state_in evac.old) (state_in evac.new) }
     ensures rests { OnOk result (IsSome (place_to_view (read_of ((state_in evac.new).cell pointer)))) }
     ensures away { IfErr result (λ why. StaysAway D D.reads (state_in evac.new) pointer evac.new.book.device why) }
+    ensures stuck { IfErr result (λ why. IsStuck D D.writes (state_in evac.old) why) }
 {
     core_of(evac).keeps_law();
     if rests(core_of(evac).cell(pointer)) {
@@ -46,6 +49,7 @@ pub(crate) fn bring_anew<D: Device + Drop>(
     ensures keeps { Keeps (state_in evac.old) (state_in evac.new) }
     ensures rests { OnOk result (IsSome (place_to_view (read_of ((state_in evac.new).cell pointer)))) }
     ensures away { IfErr result (λ why. StaysAway D D.reads (state_in evac.new) pointer evac.new.book.device why) }
+    ensures stuck { IfErr result (λ why. IsStuck D D.writes (state_in evac.old) why) }
 {
     match bring(evac, pointer) {
         Err(Refused::NoRoom) => bring_again(evac, pointer),
@@ -62,6 +66,7 @@ fn bring_again<D: Device + Drop>(evac: &mut Evac<Plain, D>, pointer: u16) -> Res
     ensures keeps { Keeps (state_in evac.old) (state_in evac.new) }
     ensures rests { OnOk result (IsSome (place_to_view (read_of ((state_in evac.new).cell pointer)))) }
     ensures away { IfErr result (λ why. StaysAway D D.reads (state_in evac.new) pointer evac.new.book.device why) }
+    ensures stuck { IfErr result (λ why. IsStuck D D.writes (state_in evac.old) why) }
 {
     let mut rounds = Rounds::new(evac);
     while rounds.make(evac) {
@@ -70,7 +75,23 @@ fn bring_again<D: Device + Drop>(evac: &mut Evac<Plain, D>, pointer: u16) -> Res
             answer => return answer,
         }
     }
-    Err(Refused::NoRoom)
+    bring_last(evac, pointer)
+}
+
+// The same after one more round, the last.
+fn bring_last<D: Device + Drop>(evac: &mut Evac<Plain, D>, pointer: u16) -> Result<(), Refused>
+    requires settled { Settled (state_in evac.old) }
+    requires used { (state_in evac.old).used pointer ≡ true }
+    ensures keeps { Keeps (state_in evac.old) (state_in evac.new) }
+    ensures rests { OnOk result (IsSome (place_to_view (read_of ((state_in evac.new).cell pointer)))) }
+    ensures away { IfErr result (λ why. StaysAway D D.reads (state_in evac.new) pointer evac.new.book.device why) }
+    ensures stuck { IfErr result (λ why. IsStuck D D.writes (state_in evac.old) why) }
+{
+    let made = last_round(evac);
+    match bring(evac, pointer) {
+        Ok(()) => Ok(()),
+        Err(why) => Err(told(why, made)),
+    }
 }
 
 // Brings an object to where a view may rest, without a round.
@@ -80,6 +101,7 @@ fn bring<D: Device + Drop>(evac: &mut Evac<Plain, D>, pointer: u16) -> Result<()
     ensures keeps { Keeps (state_in evac.old) (state_in evac.new) }
     ensures rests { OnOk result (IsSome (place_to_view (read_of ((state_in evac.new).cell pointer)))) }
     ensures away { IfErr result (λ why. StaysAway D D.reads (state_in evac.new) pointer evac.new.book.device why) }
+    ensures roomy { 2 ≤ length (free_logs (state_in evac.old)) → IfErr result (λ why. why ≢ no_room) }
 {
     let core = core_of(evac);
     core.keeps_law();
@@ -98,6 +120,7 @@ fn move_near<D: Device + Drop>(evac: &mut Evac<Plain, D>, pointer: u16) -> Resul
     ensures keeps { Keeps (state_in evac.old) (state_in evac.new) }
     ensures rests { OnOk result (IsSome (place_to_view (read_of ((state_in evac.new).cell pointer)))) }
     ensures crowded { IfErr result (λ why. IsCrowded (state_in evac.new) pointer why) }
+    ensures roomy { 2 ≤ length (free_logs (state_in evac.old)) → IfErr result (λ why. why ≢ no_room) }
 {
     evac.ask((pointer / CELLS) as u8, pointer, Mark::Moved);
     match evac.move_now(pointer) {
@@ -118,6 +141,7 @@ pub(crate) fn fetch_far<D: Device + Drop>(
     ensures rests { OnOk result (IsSome (place_to_view (read_of ((state_in evac.new).cell pointer)))) }
     ensures near { OnOk result (says_near (read_of ((state_in evac.new).cell pointer)) ≡ true) }
     ensures far { IfErr result (λ why. StaysFar D D.reads (state_in evac.new) pointer evac.new.book.device why) }
+    ensures roomy { 2 ≤ length (free_logs (state_in evac.old)) → IfErr result (λ why. why ≢ no_room) }
 {
     evac.book().keeps_law();
     match evac.fetch(pointer) {

@@ -90,8 +90,8 @@ fn turn<D: Device + Drop>(evac: &mut Evac<Plain, D>) -> bool
     }
 }
 
-// Gives up a round that stands, if one does.
-fn end_round<D: Device + Drop>(evac: &mut Evac<Plain, D>)
+/// Gives up a round that stands, if one does.
+pub(crate) fn end_round<D: Device + Drop>(evac: &mut Evac<Plain, D>)
     ensures keeps { Keeps (state_in evac.old) (state_in evac.new) }
     ensures idle { evac.new.phase ≡ Idle }
 {

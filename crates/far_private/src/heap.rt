@@ -1,10 +1,11 @@
 //! The heap as its thread holds it.
 
-ghost use Rattle.std.specs.Prelude.{◌≡◌, ◌<◌, ◌+◌, ℕ, true, false, cond, None, Some, Err, IsSome, IfOk, IfErr, IfSome, OnErr, OnOk, length, slice_range};
+ghost use Rattle.std.specs.Prelude.{◌≡◌, ◌<◌, ◌≤◌, ◌+◌, ℕ, true, false, cond, None, Some, Err, IsSome, IfOk, IfErr, IfSome, OnErr, OnOk, length, slice_range};
 ghost use Rattle.far_word.specs.declared.refused.Refused.{Refused as Refusal};
-ghost use Rattle.far_word.specs.declared.refused.Refused.TheVariants.{Length, NoPointer, NotHeld};
+ghost use Rattle.far_word.specs.declared.refused.Refused.TheVariants.{Length, NoPointer, NoRoom, NotHeld};
 ghost use Rattle.far_word.specs.declared.sizes.TheConstants.{POINTERS};
 ghost use Rattle.std.specs.Option.{option_map};
+ghost use Rattle.far_private.specs.Causes.{IsNotTaken};
 ghost use Rattle.far_private.specs.Objects.{rewritten};
 ghost use Rattle.far_private.specs.Heap.{HeapLaw, IsFull, IsWhyNoAccess, IsWhyNoObject, access_refusal, bytes_in, is_length, object, with_new, with_written, without, new_object, is_logs};
 
@@ -54,6 +55,7 @@ impl<D: Device + Drop> PrivateHeap<D> {
         requires honest { honest ≡ true → D.honest device ≡ true }
         ensures empty { IfOk result (λ heap. (p : ℕ) → object heap p ≡ None) }
         ensures honest { IfOk result (λ heap. heap.honest ≡ honest) }
+        ensures logs { IfOk result (λ heap. heap.logs ≡ logs) }
         ensures shape { IfOk result (λ _. is_logs logs ≡ true) }
         ensures refused { IfErr result (λ why. why ≡ cond (is_logs logs) Refused.Memory Refused.Shape) }
     {
@@ -87,7 +89,8 @@ impl<D: Device + Drop> PrivateHeap<D> {
     /// Makes an object of `len` zeros, and answers its pointer, which had none.
     ///
     /// Refused, in this order: [`Refused::Length`] unless an object has 1 to 4,088 bytes, [`Refused::NoPointer`] where each of the
-    /// 2,048 pointers has an object, and [`Refused::NoRoom`] where no log has room after so many rounds. Nothing has changed then.
+    /// 2,048 pointers has an object, and [`Refused::NoRoom`] where no log has room after so many rounds: of three logs or more only where the
+    /// device refused to take an object. [`Refused::EpochsSpent`] in its place where 2^62 rounds were made. Nothing has changed then.
     pub fn alloc(&mut self, len: u16, structure: u8) -> Result<u16, Refused>
         ensures made { IfOk result (λ p. (p < POINTERS) × (object self.old p ≡ None) × (self.new ≡ with_new p len structure self.old)) }
         ensures object { IfOk result (λ p. object self.new p ≡ Some (new_object self.old.honest len structure)) }
@@ -96,6 +99,7 @@ impl<D: Device + Drop> PrivateHeap<D> {
         ensures long { is_length len ≡ false → result ≡ Err Length }
         ensures full { is_length len ≡ true → IsFull self.old → result ≡ Err NoPointer }
         ensures why { IfErr result (λ why. IsWhyNoObject self.old len why) }
+        ensures room { result ≡ Err NoRoom → 3 ≤ self.old.logs → IsNotTaken D D.writes (object self.old) }
     {
         if len == 0 {
             return Err(Refused::Length);
@@ -118,8 +122,8 @@ impl<D: Device + Drop> PrivateHeap<D> {
     /// Reads bytes of an object, from one on, as many as there is room for.
     ///
     /// Refused, in this order: [`Refused::NotHeld`] where the pointer has no object, [`Refused::Range`] where no byte is asked for
-    /// or one past the object's end, and then only [`Refused::NoRoom`], [`Refused::Memory`], [`Refused::Device`] and
-    /// [`Refused::Damaged`], for an object that lies far; the last only over a device that isn't honest.
+    /// or one past the object's end, and then only [`Refused::NoRoom`] or [`Refused::EpochsSpent`] as `alloc`, [`Refused::Memory`],
+    /// [`Refused::Device`] and [`Refused::Damaged`], for an object that lies far; the last only over a device that isn't honest.
     pub fn read(&mut self, pointer: u16, from: usize, out: &mut [u8]) -> Result<(), Refused>
         ensures same { self.new ≡ self.old }
         ensures long { length out.new ≡ length out.old }
@@ -127,6 +131,7 @@ impl<D: Device + Drop> PrivateHeap<D> {
         ensures done { OnOk result (access_refusal self.old pointer from (length out.old) ≡ None) }
         ensures barred { (why : Refusal) → access_refusal self.old pointer from (length out.old) ≡ Some why → result ≡ Err why }
         ensures why { IfErr result (λ why. IsWhyNoAccess self.old.honest (access_refusal self.old pointer from (length out.old)) why) }
+        ensures room { result ≡ Err NoRoom → 3 ≤ self.old.logs → IsNotTaken D D.writes (object self.old) }
     {
         read_range(&mut self.evac, pointer, from, out)
     }
@@ -139,6 +144,7 @@ impl<D: Device + Drop> PrivateHeap<D> {
         ensures refused { OnErr result (self.new ≡ self.old) }
         ensures barred { (why : Refusal) → access_refusal self.old pointer from (length bytes.now) ≡ Some why → result ≡ Err why }
         ensures why { IfErr result (λ why. IsWhyNoAccess self.old.honest (access_refusal self.old pointer from (length bytes.now)) why) }
+        ensures room { result ≡ Err NoRoom → 3 ≤ self.old.logs → IsNotTaken D D.writes (object self.old) }
     {
         write_range(&mut self.evac, pointer, from, bytes)
     }

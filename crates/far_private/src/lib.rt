@@ -10,6 +10,7 @@ mod counting;
 mod free_pointers;
 mod freeing;
 mod heap;
+mod last;
 mod laws;
 mod looking;
 mod making;

@@ -2,7 +2,7 @@
 
 ghost use Rattle.std.specs.Prelude.{◌≡◌, ◌≤◌, ◌<◌, length, IfOk, IfErr, OnErr};
 ghost use Rattle.far_word.specs.declared.sizes.TheConstants.{LONGEST};
-ghost use Rattle.far_word.specs.declared.refused.Refused.TheVariants.{NoRoom};
+ghost use Rattle.far_private.specs.Causes.{IsStuck, IsWant};
 ghost use Rattle.far_private.specs.Looks.{IsFresh, with_made};
 ghost use Rattle.far_private.specs.Objects.{Settled, len_in, objects_of, state_in, with_written};
 
@@ -28,7 +28,8 @@ pub(crate) fn place_with<D: Device + Drop>(
     ensures settled { Settled (state_in evac.new) }
     ensures made { IfOk result (λ _. objects_of (state_in evac.new) ≡ with_made pointer structure bytes.now (objects_of (state_in evac.old))) }
     ensures refused { OnErr result (objects_of (state_in evac.new) ≡ objects_of (state_in evac.old)) }
-    ensures why { IfErr result (λ why. why ≡ NoRoom) }
+    ensures why { IfErr result (λ why. IsWant why) }
+    ensures stuck { IfErr result (λ why. IsStuck D D.writes (state_in evac.old) why) }
 {
     match place_new(evac, pointer, bytes.len() as u16, structure) {
         Ok(()) => {

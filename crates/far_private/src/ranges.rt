@@ -1,12 +1,13 @@
 //! Ranges of objects, wherever they are.
 
-ghost use Rattle.std.specs.Prelude.{◌≡◌, ◌<◌, ◌+◌, ◌≤◌, ◌&&◌, nat_lt, nat_le, true, false, length, slice_range, None, Some, Ok, Err, IfErr, IfSome, OnErr, OnOk};
+ghost use Rattle.std.specs.Prelude.{◌≡◌, ◌≢◌, ◌<◌, ◌+◌, ◌≤◌, ◌&&◌, nat_lt, nat_le, true, false, length, slice_range, None, Some, Ok, Err, IfErr, IfSome, OnErr, OnOk};
 ghost use Rattle.far_word.specs.declared.refused.Refused.{Refused as Refusal};
 ghost use Rattle.far_word.specs.declared.refused.Refused.TheVariants.{NoRoom as no_room};
 ghost use Rattle.far_word.specs.declared.sizes.TheConstants.{LONGEST};
 ghost use Rattle.far_word.specs.Pointer.{read_of};
+ghost use Rattle.far_core.specs.state.Room.{free_logs};
 ghost use Rattle.far_alone.specs.Dereference.{says_near};
-ghost use Rattle.far_private.specs.Causes.{StaysAway, StaysFar};
+ghost use Rattle.far_private.specs.Causes.{IsStuck, StaysAway, StaysFar};
 ghost use Rattle.far_private.specs.Heap.{IsOutside};
 ghost use Rattle.far_private.specs.Objects.{IsRead, Settled, access_refusal, bytes_in, len_in, objects_of, state_in, with_written};
 ghost use Rattle.far_private.specs.Steps.{Keeps};
@@ -15,6 +16,7 @@ use crate::access::{overwrite, overwrite_cold, warm};
 use crate::bringing::{bring_anew, fetch_far};
 use crate::budget::Rounds;
 use crate::cells::{core_of, is_near, rests};
+use crate::last::{last_round, told};
 use crate::nearby::copy_near;
 use far_book::Plain;
 use far_device::Device;
@@ -75,6 +77,7 @@ pub(crate) fn read_range<D: Device + Drop>(
     ensures barred { (why : Refusal) → access_refusal (objects_of (state_in evac.old)) pointer from (length out.old) ≡ Some why → result ≡ Err why }
     ensures outside { access_refusal (objects_of (state_in evac.old)) pointer from (length out.old) ≡ None → IfErr result (λ why. IsOutside (state_in evac.old).honest why) }
     ensures far { access_refusal (objects_of (state_in evac.old)) pointer from (length out.old) ≡ None → IfErr result (λ why. StaysFar D D.reads (state_in evac.new) pointer evac.new.book.device why) }
+    ensures stuck { IfErr result (λ why. IsStuck D D.writes (state_in evac.old) why) }
     ensures near { access_refusal (objects_of (state_in evac.old)) pointer from (length out.old) ≡ None → says_near (read_of ((state_in evac.old).cell pointer)) ≡ true → result ≡ Ok tt }
 {
     match reach(evac, pointer, from, out.len()) {
@@ -99,6 +102,7 @@ fn read_reached<D: Device + Drop>(
     ensures keeps { Keeps (state_in evac.old) (state_in evac.new) }
     ensures read { OnOk result (IsRead (objects_of (state_in evac.old)) pointer from (length out.old) out.new) }
     ensures far { IfErr result (λ why. StaysFar D D.reads (state_in evac.new) pointer evac.new.book.device why) }
+    ensures stuck { IfErr result (λ why. IsStuck D D.writes (state_in evac.old) why) }
     ensures near { says_near (read_of ((state_in evac.old).cell pointer)) ≡ true → result ≡ Ok tt }
 {
     match read_once(evac, pointer, from, out) {
@@ -125,6 +129,7 @@ fn read_again<D: Device + Drop>(
     ensures keeps { Keeps (state_in evac.old) (state_in evac.new) }
     ensures read { OnOk result (IsRead (objects_of (state_in evac.old)) pointer from (length out.old) out.new) }
     ensures far { IfErr result (λ why. StaysFar D D.reads (state_in evac.new) pointer evac.new.book.device why) }
+    ensures stuck { IfErr result (λ why. IsStuck D D.writes (state_in evac.old) why) }
 {
     let mut rounds = Rounds::new(evac);
     while rounds.make(evac) {
@@ -134,7 +139,31 @@ fn read_again<D: Device + Drop>(
             Err(why) => return Err(why),
         }
     }
-    Err(Refused::NoRoom)
+    read_last(evac, pointer, from, out)
+}
+
+// The same after one more round, the last.
+fn read_last<D: Device + Drop>(
+    evac: &mut Evac<Plain, D>,
+    pointer: u16,
+    from: u16,
+    out: &mut [u8],
+) -> Result<(), Refused>
+    requires settled { Settled (state_in evac.old) }
+    requires used { (state_in evac.old).used pointer ≡ true }
+    requires some { 0 < length out.old }
+    requires inside { from + length out.old ≤ len_in (objects_of (state_in evac.old)) pointer }
+    requires most { from + length out.old ≤ LONGEST }
+    ensures keeps { Keeps (state_in evac.old) (state_in evac.new) }
+    ensures read { OnOk result (IsRead (objects_of (state_in evac.old)) pointer from (length out.old) out.new) }
+    ensures far { IfErr result (λ why. StaysFar D D.reads (state_in evac.new) pointer evac.new.book.device why) }
+    ensures stuck { IfErr result (λ why. IsStuck D D.writes (state_in evac.old) why) }
+{
+    let made = last_round(evac);
+    match read_once(evac, pointer, from, out) {
+        Ok(()) => Ok(()),
+        Err(why) => Err(told(why, made)),
+    }
 }
 
 // The same, without a round. A near object has HOT then; a far one is fetched, and stays cold.
@@ -153,6 +182,7 @@ fn read_once<D: Device + Drop>(
     ensures keeps { Keeps (state_in evac.old) (state_in evac.new) }
     ensures read { OnOk result (IsRead (objects_of (state_in evac.old)) pointer from (length out.old) out.new) }
     ensures far { IfErr result (λ why. StaysFar D D.reads (state_in evac.new) pointer evac.new.book.device why) }
+    ensures roomy { 2 ≤ length (free_logs (state_in evac.old)) → IfErr result (λ why. why ≢ no_room) }
     ensures near { says_near (read_of ((state_in evac.old).cell pointer)) ≡ true → result ≡ Ok tt }
 {
     core_of(evac).keeps_law();
@@ -197,6 +227,7 @@ fn read_far<D: Device + Drop>(
     ensures keeps { Keeps (state_in evac.old) (state_in evac.new) }
     ensures read { OnOk result (IsRead (objects_of (state_in evac.old)) pointer from (length out.old) out.new) }
     ensures far { IfErr result (λ why. StaysFar D D.reads (state_in evac.new) pointer evac.new.book.device why) }
+    ensures roomy { 2 ≤ length (free_logs (state_in evac.old)) → IfErr result (λ why. why ≢ no_room) }
 {
     match fetch_far(evac, pointer) {
         Ok(()) => {
@@ -221,6 +252,7 @@ pub(crate) fn write_range<D: Device + Drop>(
     ensures barred { (why : Refusal) → access_refusal (objects_of (state_in evac.old)) pointer from (length bytes.now) ≡ Some why → result ≡ Err why }
     ensures outside { access_refusal (objects_of (state_in evac.old)) pointer from (length bytes.now) ≡ None → IfErr result (λ why. IsOutside (state_in evac.old).honest why) }
     ensures away { access_refusal (objects_of (state_in evac.old)) pointer from (length bytes.now) ≡ None → IfErr result (λ why. StaysAway D D.reads (state_in evac.new) pointer evac.new.book.device why) }
+    ensures stuck { IfErr result (λ why. IsStuck D D.writes (state_in evac.old) why) }
 {
     match reach(evac, pointer, from, bytes.len()) {
         Ok(()) => {}
@@ -245,6 +277,7 @@ fn write_reached<D: Device + Drop>(
     ensures written { OnOk result (objects_of (state_in evac.new) ≡ with_written pointer from bytes.now (objects_of (state_in evac.old))) }
     ensures refused { OnErr result (objects_of (state_in evac.new) ≡ objects_of (state_in evac.old)) }
     ensures away { IfErr result (λ why. StaysAway D D.reads (state_in evac.new) pointer evac.new.book.device why) }
+    ensures stuck { IfErr result (λ why. IsStuck D D.writes (state_in evac.old) why) }
 {
     core_of(evac).keeps_law();
     if rests(core_of(evac).cell(pointer)) {
@@ -271,6 +304,7 @@ fn write_brought<D: Device + Drop>(
     ensures written { OnOk result (objects_of (state_in evac.new) ≡ with_written pointer from bytes.now (objects_of (state_in evac.old))) }
     ensures refused { OnErr result (objects_of (state_in evac.new) ≡ objects_of (state_in evac.old)) }
     ensures away { IfErr result (λ why. StaysAway D D.reads (state_in evac.new) pointer evac.new.book.device why) }
+    ensures stuck { IfErr result (λ why. IsStuck D D.writes (state_in evac.old) why) }
 {
     match bring_anew(evac, pointer) {
         Ok(()) => {

@@ -4,9 +4,10 @@
 ghost use Rattle.std.specs.Prelude.{◌≡◌, ◌+◌, ◌<◌, ◌≤◌, ℕ, List, true, false, None, Some, Ok, Err, IfOk, IfErr, OnErr, OnOk, is_some, length, filter};
 ghost use Rattle.std.specs.Fn.{FnOnceReturnsAtMut, FnOnceTakesAtMut};
 ghost use Rattle.far_word.specs.declared.refused.Refused.{Refused as Refusal};
-ghost use Rattle.far_word.specs.declared.refused.Refused.TheVariants.{Length, NoPointer};
+ghost use Rattle.far_word.specs.declared.refused.Refused.TheVariants.{Length, NoPointer, NoRoom};
 ghost use Rattle.far_word.specs.declared.sizes.TheConstants.{POINTERS};
 ghost use Rattle.far_log.specs.declared.row.LogRow.{LogRow};
+ghost use Rattle.far_private.specs.Causes.{IsNotTaken};
 ghost use Rattle.far_private.specs.Changes.{Updates};
 ghost use Rattle.far_private.specs.NoRound.{IsNoRound};
 ghost use Rattle.far_private.specs.Heap.{IsFull, IsWhyNoAccess, IsWhyNoObject, access_refusal, has, is_length, object, size_of, structure_of, with_made, object_with};
@@ -35,6 +36,7 @@ impl<D: Device + Drop> PrivateHeap<D> {
         ensures long { is_length (length bytes.now) ≡ false → result ≡ Err Length }
         ensures full { is_length (length bytes.now) ≡ true → IsFull self.old → result ≡ Err NoPointer }
         ensures why { IfErr result (λ why. IsWhyNoObject self.old (length bytes.now) why) }
+        ensures room { result ≡ Err NoRoom → 3 ≤ self.old.logs → IsNotTaken D D.writes (object self.old) }
     {
         if !is_object(bytes) {
             return Err(Refused::Length);
@@ -69,6 +71,7 @@ impl<D: Device + Drop> PrivateHeap<D> {
         ensures kept { OnErr result (bytes.new ≡ bytes.old) }
         ensures barred { (why : Refusal) → access_refusal self.old pointer from (length bytes.old) ≡ Some why → result ≡ Err why }
         ensures why { IfErr result (λ why. IsWhyNoAccess self.old.honest (access_refusal self.old pointer from (length bytes.old)) why) }
+        ensures room { result ≡ Err NoRoom → 3 ≤ self.old.logs → IsNotTaken D D.writes (object self.old) }
     {
         change_range(&mut self.evac, pointer, from, bytes, change)
     }

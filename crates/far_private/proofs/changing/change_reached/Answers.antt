@@ -33,6 +33,7 @@ returns-in-Ok g c = record {
   refused = tt;
   kept = tt;
   outside = tt;
+  stuck = tt;
 }
 
 pub returns-in-Err : goal.returns-in-Err
@@ -42,4 +43,5 @@ returns-in-Err g c = record {
   refused = c.take.ensures.keeps.objects;
   kept = c.in-Err.ensures.kept;
   outside = c.in-Err.ensures.outside;
+  stuck = c.in-Err.ensures.stuck;
 }

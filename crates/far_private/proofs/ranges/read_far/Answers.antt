@@ -22,4 +22,5 @@ returns-in-Ok g c =
       read = read_before s t k c.args.pointer c.args.from (length c.args.out.now) c.copy_near.new.out
           (near_read t c.fetch_far.new.evac.book.near.core.law c.args.pointer (used_on s t c.args.pointer k c.requires.used) c.in-Ok.ensures.near c.args.from (length c.args.out.now) c.copy_near.new.out c.copy_near.ensures);
       far = tt;
+      roomy = λ _. tt;
     }

@@ -19,6 +19,7 @@ returns-in-Ok g c = record {
   written = c.overwrite_cold.ensures.written ∙ ap (with_written c.args.pointer c.args.from c.args.bytes.now) c.bring_anew.ensures.keeps.objects;
   refused = tt;
   away = tt;
+  stuck = tt;
 }
 
 pub returns-in-Err : goal.returns-in-Err
@@ -27,4 +28,5 @@ returns-in-Err g c = record {
   written = tt;
   refused = c.bring_anew.ensures.keeps.objects;
   away = c.in-Err.ensures.away;
+  stuck = c.in-Err.ensures.stuck;
 }

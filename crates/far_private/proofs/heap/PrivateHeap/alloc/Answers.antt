@@ -1,9 +1,10 @@
-use Rattle.std.proofs.Common.{◌<◌, ◌∙◌, Some, ap, arith}
+use Rattle.std.proofs.Common.{Err, ◌<◌, ◌∙◌, Some, ap, arith}
 use Rattle.far_private.specs.Heap.{Heap, new_object}
 use Rattle.far_private.specs.Objects.{objects_in, state_in}
-use Rattle.far_private.proofs.HeapTies.{full_so, length_yes, made_so, new_at, no_room, none_so, not_full, not_long, stays_so}
+use Rattle.far_private.proofs.HeapTies.{full_so, length_yes, made_so, new_at, none_so, not_full, not_long, stays_so}
 use Rattle.far_private.proofs.Lawful.{ends}
 use Rattle.far_private.proofs.Placing.{free_none, full_some, has_same, has_taken}
+use Rattle.far_private.proofs.RoomTold.{room_so, want_why}
 use Rattle.far_private.proofs.heap.PrivateHeap.alloc.Goals as goal
 
 pub returns-in_default-clause-long : goal.returns-in_default-clause-long
@@ -31,6 +32,7 @@ returns-in-Ok g c =
       long = not_long c.args.self.now c.args.len some (omega arith) _;
       full = not_full c.args.self.now c.args.len some (omega arith) c.in-Some.pointer free.inside none _;
       why = tt;
+      room = λ e. absurd cc;
     }
 
 pub returns-in-Err : goal.returns-in-Err
@@ -47,7 +49,8 @@ returns-in-Err g c =
       refused = stays_so (objects_in c.self.inside.evac) c.args.self.now c.self.view_is (objects_in c.place_new.new.evac) c.in-Err.ensures.refused;
       long = not_long c.args.self.now c.args.len some (omega arith) _;
       full = not_full c.args.self.now c.args.len some (omega arith) c.in-Some.pointer free.inside none _;
-      why = no_room c.args.self.now c.args.len some (omega arith) c.in-Some.pointer free.inside none _ c.in-Err.ensures.why;
+      why = want_why c.args.self.now c.args.len (length_yes c.args.len some (omega arith)) (c.in-Some.pointer, free.inside, none) c.in-Err.why c.in-Err.ensures.why;
+      room = room_so g.D.Device.writes s c.args.self.now c.self.view_is (ends s law c.self.invariant.settled) (Err c.in-Err.why) c.in-Err.ensures.stuck;
     }
 
 pub invariant_of-self : goal.invariant_of-self

@@ -1,11 +1,12 @@
-use Rattle.std.proofs.Common.{◌≡◌, ◌∙◌, length, sym, true, Some, ap}
+use Rattle.std.proofs.Common.{Err, ◌≡◌, ◌∙◌, length, sym, true, Some, ap}
 use Rattle.std.proofs.lemmas.Bool.{false≢true}
 use Rattle.far_private.specs.Heap.{Heap, is_length, object_with}
 use Rattle.far_private.specs.Objects.{objects_in, state_in}
 use Rattle.far_private.proofs.Calling.{bytes_so, length_most, length_some}
-use Rattle.far_private.proofs.HeapTies.{full_so, no_room, none_so, not_full, not_long, stays_so, new_at}
+use Rattle.far_private.proofs.HeapTies.{full_so, none_so, not_full, not_long, stays_so, new_at}
 use Rattle.far_private.proofs.Lawful.{ends}
 use Rattle.far_private.proofs.Placing.{free_none, full_some, has_same, has_taken}
+use Rattle.far_private.proofs.RoomTold.{room_so, want_why}
 use Rattle.far_private.proofs.heap.PrivateHeap.alloc_with.Goals as goal
 
 pub returns-then-not-is_object-clause-full : goal.returns-then-not-is_object-clause-full
@@ -46,6 +47,7 @@ returns-in-Ok g c =
       long = not_long c.args.self.now (length c.args.bytes.now) (length_some _ long) (length_most _ long) _;
       full = not_full c.args.self.now (length c.args.bytes.now) (length_some _ long) (length_most _ long) c.in-Some.pointer free.inside none _;
       why = tt;
+      room = λ e. absurd cc;
     }
 
 pub returns-in-Err : goal.returns-in-Err
@@ -62,7 +64,8 @@ returns-in-Err g c =
       refused = stays_so (objects_in c.self.inside.evac) c.args.self.now c.self.view_is (objects_in c.place_with.new.evac) c.in-Err.ensures.refused;
       long = not_long c.args.self.now (length c.args.bytes.now) (length_some _ long) (length_most _ long) _;
       full = not_full c.args.self.now (length c.args.bytes.now) (length_some _ long) (length_most _ long) c.in-Some.pointer free.inside none _;
-      why = no_room c.args.self.now (length c.args.bytes.now) (length_some _ long) (length_most _ long) c.in-Some.pointer free.inside none _ c.in-Err.ensures.why;
+      why = want_why c.args.self.now (length c.args.bytes.now) long (c.in-Some.pointer, free.inside, none) c.in-Err.why c.in-Err.ensures.why;
+      room = room_so g.D.Device.writes s c.args.self.now c.self.view_is (ends s law c.self.invariant.settled) (Err c.in-Err.why) c.in-Err.ensures.stuck;
     }
 
 pub invariant_of-self : goal.invariant_of-self

@@ -3,6 +3,7 @@ use Rattle.std.proofs.Common.{length}
 use Rattle.far_private.specs.Objects.{objects_in, state_in}
 use Rattle.far_private.proofs.HeapTies.{bars_so, done_so, read_so, stays_so, why_so}
 use Rattle.far_private.proofs.Lawful.{ends}
+use Rattle.far_private.proofs.RoomTold.{room_so}
 use Rattle.far_private.proofs.heap.PrivateHeap.read.Goals as goal
 
 pub returns-clause-same : goal.returns-clause-same
@@ -23,6 +24,9 @@ returns-clause-barred g c = bars_so (objects_in c.self.inside.evac) c.args.self.
 pub returns-clause-why : goal.returns-clause-why
 returns-clause-why g c = why_so (objects_in c.self.inside.evac) c.args.self.now c.self.view_is (ends (state_in c.self.inside.evac) c.self.inside.evac.book.near.core.law c.self.invariant.settled)
     c.args.pointer c.args.from (length c.args.out.now) c.read_range.result c.read_range.ensures.barred c.read_range.ensures.outside
+
+pub returns-clause-room : goal.returns-clause-room
+returns-clause-room g c = room_so g.D.Device.writes (state_in c.self.inside.evac) c.args.self.now c.self.view_is (ends (state_in c.self.inside.evac) c.self.inside.evac.book.near.core.law c.self.invariant.settled) c.read_range.result c.read_range.ensures.stuck
 
 pub invariant_of-self : goal.invariant_of-self
 invariant_of-self g c = keeps_kept (state_in c.self.inside.evac) (state_in c.read_range.new.evac) c.self.inside.free c.self.invariant c.read_range.ensures.keeps

@@ -4,6 +4,7 @@ use Rattle.far_private.proofs.Calling.{updates_so}
 use Rattle.far_private.proofs.HeapTies.{bars_so, done_so, stays_err, why_so}
 use Rattle.far_private.proofs.Lawful.{ends}
 use Rattle.far_private.proofs.Placing.{changed_kept}
+use Rattle.far_private.proofs.RoomTold.{room_so}
 use Rattle.far_private.proofs.heap.PrivateHeap.update.Goals as goal
 
 pub returns-clause-changed : goal.returns-clause-changed
@@ -24,6 +25,9 @@ returns-clause-barred g c = bars_so (objects_in c.self.inside.evac) c.args.self.
 pub returns-clause-why : goal.returns-clause-why
 returns-clause-why g c = why_so (objects_in c.self.inside.evac) c.args.self.now c.self.view_is (ends (state_in c.self.inside.evac) c.self.inside.evac.book.near.core.law c.self.invariant.settled)
     c.args.pointer c.args.from (length c.args.bytes.now) c.change_range.result c.change_range.ensures.barred c.change_range.ensures.outside
+
+pub returns-clause-room : goal.returns-clause-room
+returns-clause-room g c = room_so g.D.Device.writes (state_in c.self.inside.evac) c.args.self.now c.self.view_is (ends (state_in c.self.inside.evac) c.self.inside.evac.book.near.core.law c.self.invariant.settled) c.change_range.result c.change_range.ensures.stuck
 
 pub invariant_of-self : goal.invariant_of-self
 invariant_of-self g c = changed_kept (state_in c.self.inside.evac) (state_in c.change_range.new.evac) c.self.inside.free c.self.invariant _ c.change_range.result c.args.pointer c.args.from (length c.args.bytes.now) c.change_range.new.bytes

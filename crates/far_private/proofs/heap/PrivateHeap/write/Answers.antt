@@ -3,6 +3,7 @@ use Rattle.std.proofs.Common.{length}
 use Rattle.far_private.specs.Objects.{objects_in, state_in}
 use Rattle.far_private.proofs.HeapTies.{bars_so, done_so, stays_err, why_so, written_ok, written_at}
 use Rattle.far_private.proofs.Lawful.{ends}
+use Rattle.far_private.proofs.RoomTold.{room_so}
 use Rattle.far_private.proofs.heap.PrivateHeap.write.Goals as goal
 
 pub returns-clause-written : goal.returns-clause-written
@@ -27,6 +28,9 @@ returns-clause-barred g c = bars_so (objects_in c.self.inside.evac) c.args.self.
 pub returns-clause-why : goal.returns-clause-why
 returns-clause-why g c = why_so (objects_in c.self.inside.evac) c.args.self.now c.self.view_is (ends (state_in c.self.inside.evac) c.self.inside.evac.book.near.core.law c.self.invariant.settled)
     c.args.pointer c.args.from (length c.args.bytes.now) c.write_range.result c.write_range.ensures.barred c.write_range.ensures.outside
+
+pub returns-clause-room : goal.returns-clause-room
+returns-clause-room g c = room_so g.D.Device.writes (state_in c.self.inside.evac) c.args.self.now c.self.view_is (ends (state_in c.self.inside.evac) c.self.inside.evac.book.near.core.law c.self.invariant.settled) c.write_range.result c.write_range.ensures.stuck
 
 pub invariant_of-self : goal.invariant_of-self
 invariant_of-self g c = written_kept (state_in c.self.inside.evac) (state_in c.write_range.new.evac) c.self.inside.free c.self.invariant c.write_range.result c.args.pointer c.args.from c.args.bytes.now
