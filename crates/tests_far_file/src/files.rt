@@ -73,22 +73,21 @@ fn file_fails(alloc: Global, file: io::Result<File>, why: StorageFault) -> bool 
     }
 }
 
-// Whether storage has a byte where it was put.
-fn has<F: Storage>(storage: &F, at: u64, byte: u8) -> bool {
-    let mut buffer = [0u8; 1];
-    storage.get(at, &mut buffer).is_ok() && buffer == [byte]
-}
-
 // Whether storage keeps apart what is put at its first byte, and so far up that positions of 22 or 32 bits come round to that.
 fn keeps_far_up<F: Storage>(storage: &mut F) -> bool {
+    let mut found = [0u8; 1];
     storage.put(0, &[1]).is_ok()
         && storage.put(1 << 22, &[2]).is_ok()
         && storage.put(1 << 32, &[3]).is_ok()
         && storage.put(1 << 33, &[4]).is_ok()
-        && has(storage, 0, 1)
-        && has(storage, 1 << 22, 2)
-        && has(storage, 1 << 32, 3)
-        && has(storage, 1 << 33, 4)
+        && storage.get(0, &mut found).is_ok()
+        && found == [1]
+        && storage.get(1 << 22, &mut found).is_ok()
+        && found == [2]
+        && storage.get(1 << 32, &mut found).is_ok()
+        && found == [3]
+        && storage.get(1 << 33, &mut found).is_ok()
+        && found == [4]
 }
 
 #[test]
