@@ -1,5 +1,6 @@
 #!/usr/bin/env python3
-"""Compares the examples of docs/USING.md with the proved tests that they are taken from. Prints where they differ."""
+"""Compares the examples of docs/USING.md with the proved tests that they are taken from: what stands between `// page` and `// end` in a crate of tests.
+Prints where they differ."""
 import re
 import sys
 import textwrap
@@ -7,7 +8,6 @@ from pathlib import Path
 
 TOP = Path(__file__).resolve().parent.parent
 PAGE = TOP / 'docs/USING.md'
-TESTS = TOP / 'crates/tests_far_heap/src/tests/using.rt'
 
 
 def pieces(path, pattern):
@@ -15,10 +15,8 @@ def pieces(path, pattern):
 
 
 shown = pieces(PAGE, r'^```rust\n(.*?)^```')
-tested = pieces(TESTS, r'^ *// page\n(.*?)^ *// end\n')
-wrong = [(a, b) for a, b in zip(shown, tested) if a != b]
-for page, test in wrong:
-    print(f'docs/USING.md has\n{page}\nwhere {TESTS.name} has\n{test}')
-if len(shown) != len(tested):
-    print(f'docs/USING.md has {len(shown)} examples, {TESTS.name} {len(tested)}')
-sys.exit(bool(wrong) or len(shown) != len(tested))
+tested = {piece: path.relative_to(TOP) for path in sorted(TOP.glob('crates/*/src/**/*.rt')) for piece in pieces(path, r'^ *// page\n(.*?)^ *// end\n')}
+wrong = [f'docs/USING.md has, and no test:\n{piece}' for piece in shown if piece not in tested]
+wrong += [f'{path} has, and docs/USING.md has not:\n{piece}' for piece, path in tested.items() if piece not in shown]
+print('\n'.join(wrong), end='\n' if wrong else '')
+sys.exit(bool(wrong))

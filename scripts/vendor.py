@@ -1,0 +1,60 @@
+#!/usr/bin/env python3
+"""Copies crates, and those that they stand on, into a repository of your own.
+
+usage: vendor.py FOLDER CRATE..     as in vendor.py ~/mine far_pool far_map
+
+FOLDER/crates gets the crates, without tests and without the edits that their prover refuses, and FOLDER/crates.txt their lines, where it has none for them;
+beside them the licences. A crate that is there already is left as it is, and said so.
+"""
+import pathlib
+import shutil
+import sys
+
+TOP = pathlib.Path(__file__).resolve().parent.parent
+LEFT_OUT = shutil.ignore_patterns("out", "must-fail", "planted")
+LICENCES = ("LICENSE-MIT", "LICENSE-APACHE")
+
+
+def rows(path: pathlib.Path) -> dict:
+    """The libraries of each crate that a crates.txt names."""
+    lines = path.read_text().splitlines() if path.exists() else []
+    return {line.partition(":")[0].split()[0]: line for line in lines if ":" in line and not line.startswith("#")}
+
+
+def below(crate: str, known: dict, found: list) -> list:
+    """A crate and all that it stands on, lowest first."""
+    if crate in known and crate not in found:
+        for it in known[crate].partition(":")[2].split():
+            below(it, known, found)
+        found.append(crate)
+    return found
+
+
+def main() -> int:
+    if len(sys.argv) < 3:
+        print(__doc__.strip(), file=sys.stderr)
+        return 2
+    folder, known, wanted = pathlib.Path(sys.argv[1]), rows(TOP / "crates.txt"), []
+    for crate in sys.argv[2:]:
+        if crate not in known:
+            print(f"vendor: crates.txt names no {crate}", file=sys.stderr)
+            return 2
+        below(crate, known, wanted)
+    (folder / "crates").mkdir(parents=True, exist_ok=True)
+    named = rows(folder / "crates.txt")
+    with open(folder / "crates.txt", "a", encoding="utf-8") as lines:
+        for crate in wanted:
+            target = folder / "crates" / crate
+            if target.exists():
+                print(f"vendor: {target} is there, and stays as it is")
+            else:
+                shutil.copytree(TOP / "crates" / crate, target, ignore=LEFT_OUT)
+            if crate not in named:
+                lines.write(known[crate] + "\n")
+    for licence in LICENCES:
+        shutil.copy(TOP / licence, folder / f"{licence}-foxglovepeg")
+    return 0
+
+
+if __name__ == "__main__":
+    sys.exit(main())
