@@ -3,7 +3,7 @@
 on, one whose calls are interrupted, one that gives other bytes, and one that can't be made, or keeps its name; where standard streams are closed; where threads can't
 be made; and with words that it must refuse. Then tells_file, which says by name what each of three devices over one such file met.
 
-usage: fail_file.py SOAK [TELLS]     TELLS: a built tells_file of bench/programs
+usage: fail_file.py SOAK TELLS     a built soak_far_heap and tells_file
 A read or a write that does half of what was asked is gone on with. What fails is told, and so are other bytes, whichever byte of an object it is: the soak counts
 a wrong answer, as of any device that isn't to fail, and ends with status 1; no read that the heap grants gives a wrong byte. The file of a run that is killed is
 gone; it stands for none of the standard streams, and nobody but its owner may read it. Prints only what is wrong.
@@ -179,6 +179,15 @@ def met(*devices: tuple) -> str:
     return "".join(f"device {it}: {refused} writes refused, {failed} reads failed, 0 wrong, {why}\n" for it, (refused, failed, why) in enumerate(devices))
 
 
+def calls() -> list:
+    """Of each call of the system that tells_file makes over a file, in order: which device makes it, and what it has met if that alone fails."""
+    made = []
+    for turn in range(8):
+        made += [(device, (1, 0, MEDIUM)) for device in range(3)]
+        made += [(device, (0, 1, MEDIUM)) for device in range(3) for _ in range(turn + 1)]
+    return made
+
+
 def tells(program: str, library: str) -> None:
     """What goes wrong with three devices of one file, by name."""
 
@@ -193,6 +202,8 @@ def tells(program: str, library: str) -> None:
         row(f"error {why} of each write from 11", met((4, 0, name), (5, 0, name), (5, 0, name)), FAIL_FULL="11", FAIL_WITH=str(why))
         row(f"error {why} of a write", met(FINE, (1, 0, name), FINE), FAIL_CALL="2", FAIL_WITH=str(why))
         row(f"error {why} of a read", met((0, 1, name), FINE, FINE), FAIL_CALL="4", FAIL_WITH=str(why))
+    for nth, (device, met_there) in enumerate(calls(), 1):
+        row(f"call {nth} fails", met(*[met_there if it == device else FINE for it in range(3)]), FAIL_CALL=str(nth))
     # The first extent lies below the limit: the two objects of one device that have slots of 64 bytes.
     row("a file of 32 KiB at most", met((6, 0, ROOM), (8, 0, ROOM), (8, 0, ROOM)), limit=32_768)
     row("calls that are interrupted 99 times", met(FINE, FINE, FINE), FAIL_INTERRUPT="99")
@@ -204,19 +215,19 @@ def tells(program: str, library: str) -> None:
         makes("there")
         came = run(program, "there", "replacing")
         expect(f"no file, by {makes.__name__}", came == (3, "", f"tells_file: there: {why}\n"), came)
-        (os.rmdir if makes is os.mkdir else os.remove)("there")
+        if os.path.exists("there"):  # else it was taken for a file
+            (os.rmdir if makes is os.mkdir else os.remove)("there")
 
 
 def main() -> int:
-    program, *tellers = map(os.path.abspath, sys.argv[1:])
+    program, teller = map(os.path.abspath, sys.argv[1:])
     with tempfile.TemporaryDirectory() as folder:
         os.chdir(folder)
         library = os.path.join(folder, "fail_file.so")
         subprocess.run(["cc", "-O2", "-shared", "-fPIC", "-o", library, f"{HERE}/fail_file.c", "-ldl"], check=True)
         for rows in (fails, opens, refuses):
             rows(program, library)
-        for teller in tellers:
-            tells(teller, library)
+        tells(teller, library)
         os.chdir("/")
     for line in wrong:
         print(line, file=sys.stderr)

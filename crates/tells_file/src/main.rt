@@ -4,10 +4,10 @@
 //! usage: tells_file [NAME [replacing]]     NAME: tells_file.far without it. The file loses its name at once; one that is there is emptied if so asked
 #![tactic(auto)]
 
-ghost use Rattle.std.specs.Prelude.{◌<◌};
+ghost use Rattle.std.specs.Prelude.{◌<◌, ◌≤◌};
 
 use far_device::Device;
-use far_file::{Digest, FilePart, NewFile, SealedDevice, SharedFile};
+use far_file::{Digest, FileFault, FilePart, NewFile, SealedDevice, SharedFile};
 use std::alloc::Global;
 use std::fs::File;
 use std::process::ExitCode;
@@ -20,65 +20,76 @@ const NAME: &str = "tells_file.far";
 
 const DEVICES: usize = 3;
 
-/// How many bytes an object has, turn by turn: some of them fill their slots.
-const LENGTHS: [usize; 8] = [64, 4096, 1000, 65, 4088, 1, 200, 1024];
+const TURNS: usize = 8;
 
 /// What a device was asked, and how it went.
 #[derive(Clone, Copy)]
 struct Told {
-    held: [bool; 8],
+    held: [bool; TURNS],
     refused: u64,
     failed: u64,
     wrong: u64,
 }
 
 const NOTHING: Told = Told {
-    held: [false; 8],
+    held: [false; TURNS],
     refused: 0,
     failed: 0,
     wrong: 0,
 };
 
-// The byte of an object: no other has it, and it isn't 0.
-fn byte_of(device: usize, turn: usize) -> u8 {
-    (device % 8 * 16 + turn % 16 + 1) as u8
+// How many bytes an object has, turn by turn: some of them fill their slots.
+fn len_of(turn: usize) -> usize
+    ensures { result ≤ 4096 }
+{
+    match turn {
+        0 => 64,
+        1 => 4096,
+        2 => 1000,
+        3 => 65,
+        4 => 4088,
+        5 => 1,
+        6 => 200,
+        _ => 1024,
+    }
+}
+
+// As many bytes as any object has, of which each is the one of this device's object: no other has it, and it isn't 0.
+fn bytes_of(device: usize, turn: usize) -> [u8; 4096] {
+    [(device % 8 * 16 + turn % 16 + 1) as u8; 4096]
 }
 
 // Writes an object.
-fn put(far: &mut Far, told: &mut Told, device: usize, turn: usize)
+fn put<D: Device>(far: &mut D, told: &mut Told, device: usize, turn: usize)
     requires { turn < 8 }
 {
-    let bytes = [byte_of(device, turn); 4096];
-    if far.write(turn as u32, &bytes[..LENGTHS[turn]]).is_ok() {
+    let bytes = bytes_of(device, turn);
+    if far.write(turn as u32, &bytes[..len_of(turn)]).is_ok() {
         told.held[turn] = true;
     } else {
         told.refused = told.refused.saturating_add(1);
     }
 }
 
-// Whether these are an object's bytes.
-fn are_of(bytes: &[u8], device: usize, turn: usize) -> bool
-    requires { turn < 8 }
-{
-    bytes.len() == LENGTHS[turn] && bytes.iter().all(|byte| *byte == byte_of(device, turn))
-}
-
 // Reads an object, if it was written.
-fn look(far: &mut Far, told: &mut Told, device: usize, turn: usize)
+fn look<D: Device>(far: &mut D, told: &mut Told, device: usize, turn: usize)
     requires { turn < 8 }
 {
     if !told.held[turn] {
         return;
     }
-    match far.read(turn as u32) {
-        Ok(bytes) if are_of(&bytes, device, turn) => {}
-        Ok(_) => told.wrong = told.wrong.saturating_add(1),
-        Err(_) => told.failed = told.failed.saturating_add(1),
+    let Ok(bytes) = far.read(turn as u32) else {
+        told.failed = told.failed.saturating_add(1);
+        return;
+    };
+    let wanted = bytes_of(device, turn);
+    if bytes.as_slice() != &wanted[..len_of(turn)] {
+        told.wrong = told.wrong.saturating_add(1);
     }
 }
 
 // Reads what a device was given up to a turn.
-fn look_back(far: &mut Far, told: &mut Told, device: usize, turn: usize)
+fn look_back<D: Device>(far: &mut D, told: &mut Told, device: usize, turn: usize)
     requires { turn < 8 }
 {
     for before in 0..turn + 1 {
@@ -87,7 +98,7 @@ fn look_back(far: &mut Far, told: &mut Told, device: usize, turn: usize)
 }
 
 // Each device writes an object.
-fn write_all(devices: &mut Vec<Far>, told: &mut [Told; DEVICES], turn: usize)
+fn write_all<D: Device>(devices: &mut [D], told: &mut [Told; DEVICES], turn: usize)
     requires { turn < 8 }
 {
     for device in 0..DEVICES {
@@ -98,7 +109,7 @@ fn write_all(devices: &mut Vec<Far>, told: &mut [Told; DEVICES], turn: usize)
 }
 
 // Each device reads all of its own.
-fn read_all(devices: &mut Vec<Far>, told: &mut [Told; DEVICES], turn: usize)
+fn read_all<D: Device>(devices: &mut [D], told: &mut [Told; DEVICES], turn: usize)
     requires { turn < 8 }
 {
     for device in 0..DEVICES {
@@ -109,9 +120,9 @@ fn read_all(devices: &mut Vec<Far>, told: &mut [Told; DEVICES], turn: usize)
 }
 
 // All turns.
-fn play(devices: &mut Vec<Far>) -> [Told; DEVICES] {
+fn play<D: Device>(devices: &mut [D]) -> [Told; DEVICES] {
     let mut told = [NOTHING; DEVICES];
-    for turn in 0..LENGTHS.len() {
+    for turn in 0..TURNS {
         write_all(devices, &mut told, turn);
         read_all(devices, &mut told, turn);
     }
@@ -123,19 +134,15 @@ fn over(alloc: Global, file: File) -> Option<Vec<Far>> {
     let shared = SharedFile::new(alloc, file).ok()?;
     let mut devices = Vec::new(alloc);
     for _ in 0..DEVICES {
-        let far = shared.device::<Digest>(alloc).ok()?;
-        devices.push(far).ok()?;
+        devices.push(shared.device::<Digest>(alloc).ok()?).ok()?;
     }
     Some(devices)
 }
 
 // A file that has lost its name; `None`, and why is told, where there is none.
 fn open(rt: &HostRuntime, name: &str, replaces: bool) -> Option<File> {
-    let how = if replaces {
-        NewFile::new().replacing()
-    } else {
-        NewFile::new()
-    };
+    let how = NewFile::new();
+    let how = if replaces { how.replacing() } else { how };
     let file = match how.open(rt, name) {
         Ok(file) => file,
         Err(why) => {
@@ -151,7 +158,7 @@ fn open(rt: &HostRuntime, name: &str, replaces: bool) -> Option<File> {
 }
 
 // The line of a device.
-fn tell(rt: &HostRuntime, device: usize, told: &Told, far: &Far) -> io::Result<()> {
+fn tell(rt: &HostRuntime, device: usize, told: &Told, why: Option<FileFault>) -> io::Result<()> {
     let Told {
         refused,
         failed,
@@ -161,17 +168,17 @@ fn tell(rt: &HostRuntime, device: usize, told: &Told, far: &Far) -> io::Result<(
     print!(rt;
         "device {device}: {refused} writes refused, {failed} reads failed, {wrong} wrong, "
     )?;
-    match far.why() {
+    match why {
         Some(why) => println!(rt; "{why}"),
         None => println!(rt; "no fault"),
     }
 }
 
 // All lines.
-fn tell_all(rt: &HostRuntime, devices: &Vec<Far>, told: &[Told; DEVICES]) -> io::Result<()> {
+fn tell_all(rt: &HostRuntime, devices: &[Far], told: &[Told; DEVICES]) -> io::Result<()> {
     for device in 0..DEVICES {
         if let Some(far) = devices.get(device) {
-            tell(rt, device, &told[device], far)?;
+            tell(rt, device, &told[device], far.why())?;
         }
     }
     Ok(())
@@ -197,8 +204,8 @@ fn main(rt: HostRuntime) -> ExitCode {
     let Some(mut devices) = over(rt.alloc(), file) else {
         return ExitCode::from(4);
     };
-    let told = play(&mut devices);
-    match tell_all(&rt, &devices, &told) {
+    let told = play(devices.as_mut_slice());
+    match tell_all(&rt, devices.as_slice(), &told) {
         Ok(()) => ExitCode::SUCCESS,
         Err(_) => ExitCode::FAILURE,
     }
