@@ -1,10 +1,11 @@
 pub mod Beginning
+pub mod ByNumber
 pub mod Bytes
 pub mod Calling
-pub mod CellCounts
 pub mod Changed
 pub mod Coming
 pub mod Cooling
+pub mod FarCounts
 pub mod FreeWords
 pub mod Full
 pub mod HeapRows
@@ -15,7 +16,9 @@ pub mod LastCalls
 pub mod LastRounds
 pub mod LastSteps
 pub mod Lawful
+pub mod LiveBytes
 pub mod NewBytes
+pub mod NotGiven
 pub mod Outside
 pub mod Placing
 pub mod Ranging

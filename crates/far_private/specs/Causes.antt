@@ -55,6 +55,13 @@ module _ (D : Type 0) (reads : D → ℕ → Result (List ℕ) DeviceFault → D
     pub far : says_near (read_of (s.cell p)) ≡ false
     pub cause : WhyFar s p device why
 
+  -- what a user may know of it: the device was asked for this object, of so many bytes, and failed so, or gave more or fewer
+  abbrev pub IsNotGiven : ℕ → ℕ → Refused → Type 0
+  IsNotGiven p len Memory = (before : D) × (after : D) × reads before p (Err fault.Memory) after
+  IsNotGiven p len Device = (before : D) × (after : D) × reads before p (Err fault.Device) after
+  IsNotGiven p len Damaged = (before : D) × (bytes : List ℕ) × (after : D) × reads before p (Ok bytes) after × (length bytes ≢ len)
+  IsNotGiven p len why = Unit {0}
+
   -- an object doesn't come to where it may be held
   abbrev pub StaysAway : State → ℕ → D → Refused → Type 0
   StaysAway s p device why = StaysFar s p device why ⊎ IsCrowded s p why

@@ -11,3 +11,5 @@ pub mod HeapLaws
 pub mod Looks
 pub mod Changes
 pub mod NoRound
+pub mod Numbered
+pub mod FarBytes

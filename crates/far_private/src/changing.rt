@@ -6,7 +6,7 @@ ghost use Rattle.far_word.specs.declared.refused.Refused.{Refused as Refusal};
 ghost use Rattle.far_word.specs.declared.sizes.TheConstants.{LONGEST};
 ghost use Rattle.far_word.specs.Pointer.{read_of};
 ghost use Rattle.far_core.specs.events.Pin.{place_to_view};
-ghost use Rattle.far_private.specs.Causes.{IsStuck};
+ghost use Rattle.far_private.specs.Causes.{IsStuck, StaysAway};
 ghost use Rattle.far_private.specs.Changes.{Changes};
 ghost use Rattle.far_private.specs.Heap.{IsOutside};
 ghost use Rattle.far_private.specs.Objects.{IsRead, Settled, access_refusal, len_in, objects_of, state_in, with_written};
@@ -37,6 +37,7 @@ pub(crate) fn change_range<D: Device + Drop, F: FnOnce(&mut [u8])>(
     ensures kept { OnErr result (bytes.new ≡ bytes.old) }
     ensures barred { (why : Refusal) → access_refusal (objects_of (state_in evac.old)) pointer from (length bytes.old) ≡ Some why → result ≡ Err why }
     ensures outside { access_refusal (objects_of (state_in evac.old)) pointer from (length bytes.old) ≡ None → IfErr result (λ why. IsOutside (state_in evac.old).honest why) }
+    ensures away { access_refusal (objects_of (state_in evac.old)) pointer from (length bytes.old) ≡ None → IfErr result (λ why. StaysAway D D.reads (state_in evac.new) pointer evac.new.book.device why) }
     ensures stuck { IfErr result (λ why. IsStuck D D.writes (state_in evac.old) why) }
 {
     match reach(evac, pointer, from, bytes.len()) {
@@ -65,6 +66,7 @@ fn change_reached<D: Device + Drop, F: FnOnce(&mut [u8])>(
     ensures refused { OnErr result (objects_of (state_in evac.new) ≡ objects_of (state_in evac.old)) }
     ensures kept { OnErr result (bytes.new ≡ bytes.old) }
     ensures outside { IfErr result (λ why. IsOutside (state_in evac.old).honest why) }
+    ensures away { IfErr result (λ why. StaysAway D D.reads (state_in evac.new) pointer evac.new.book.device why) }
     ensures stuck { IfErr result (λ why. IsStuck D D.writes (state_in evac.old) why) }
 {
     match take(evac, pointer, from, bytes) {
@@ -101,6 +103,7 @@ fn take<D: Device + Drop>(
     ensures read { OnOk result (IsRead (objects_of (state_in evac.old)) pointer from (length out.old) out.new) }
     ensures kept { OnErr result (out.new ≡ out.old) }
     ensures outside { IfErr result (λ why. IsOutside (state_in evac.old).honest why) }
+    ensures away { IfErr result (λ why. StaysAway D D.reads (state_in evac.new) pointer evac.new.book.device why) }
     ensures stuck { IfErr result (λ why. IsStuck D D.writes (state_in evac.old) why) }
 {
     match bring_to_rest(evac, pointer) {

@@ -1,14 +1,18 @@
 //! What a heap has, and what it has done.
 
-ghost use Rattle.std.specs.Prelude.{◌≡◌, ◌+◌, ◌*◌, ◌<◌, is_some, length, filter};
+ghost use Rattle.std.specs.Prelude.{◌≡◌, ◌+◌, ◌*◌, ◌<◌, IsSome, is_some, length, filter, map, sum};
 ghost use Rattle.std.specs.List.{range_with_len};
-ghost use Rattle.far_private.specs.Objects.{Settled, objects_of, state_in};
+ghost use Rattle.far_word.specs.Mark.{bit_of};
+ghost use Rattle.far_word.specs.Pointer.{read_of};
+ghost use Rattle.far_core.specs.laws.Observed.{live_bytes};
+ghost use Rattle.far_private.specs.FarBytes.{far_len, lies_far, said_far_len, says_far, says_here};
+ghost use Rattle.far_private.specs.Objects.{objects_of, state_in};
 
 use crate::cells::core_of;
 use far_book::Plain;
 use far_device::Device;
 use far_evac::Evac;
-use far_word::{object_counts, pointer_len};
+use far_word::{POINTERS, PtrWord};
 
 /// What a heap has, and what it has done since it was made.
 #[derive(Clone, Copy, Debug, PartialEq, Eq)]
@@ -41,13 +45,15 @@ pub struct Statistics {
 
 /// Tells what a heap has, and what it has done. Nothing changes.
 pub(crate) fn tell<D: Device + Drop>(evac: &Evac<Plain, D>) -> Statistics
-    requires settled { Settled (state_in evac.now) }
     ensures objects { result.near + result.far ≡ length (filter (λ p. is_some ((objects_of (state_in evac.now)).object p)) (range_with_len 0 2048)) }
+    ensures far { result.far ≡ length (filter (lies_far (state_in evac.now)) (range_with_len 0 2048)) }
+    ensures far_bytes { result.far_bytes ≡ sum (map (far_len (state_in evac.now)) (range_with_len 0 2048)) }
+    ensures live { result.live ≡ sum (map (live_bytes (state_in evac.now)) (range_with_len 0 (state_in evac.now).logs)) }
     ensures bytes { result.live + result.dead + result.unused ≡ 4096 * (state_in evac.now).logs }
     ensures rounds { result.rounds ≡ (state_in evac.now).epoch }
     ensures faults { result.device_faults ≡ D.faults evac.now.book.device }
 {
-    let (near, far) = count_objects(evac);
+    let (near, far, far_bytes) = count_objects(evac);
     let (live, dead, unused) = count_bytes(evac);
     let done = evac.book().counts();
     Statistics {
@@ -56,7 +62,7 @@ pub(crate) fn tell<D: Device + Drop>(evac: &Evac<Plain, D>) -> Statistics
         live,
         dead,
         unused,
-        far_bytes: count_far_bytes(evac),
+        far_bytes,
         fetches: done.fetched,
         evictions: done.written.saturating_add(done.spared),
         writes_spared: done.spared,
@@ -66,38 +72,50 @@ pub(crate) fn tell<D: Device + Drop>(evac: &Evac<Plain, D>) -> Statistics
     }
 }
 
-// How many objects are near, and how many are far.
-fn count_objects<D: Device + Drop>(evac: &Evac<Plain, D>) -> (u16, u16)
-    requires settled { Settled (state_in evac.now) }
-    ensures { result.0 + result.1 ≡ length (filter (λ p. is_some ((objects_of (state_in evac.now)).object p)) (range_with_len 0 2048)) }
+// How many objects are near, how many are far, and the bytes of those.
+fn count_objects<D: Device + Drop>(evac: &Evac<Plain, D>) -> (u16, u16, u64)
+    ensures all { result.0 + result.1 ≡ length (filter (λ p. is_some ((objects_of (state_in evac.now)).object p)) (range_with_len 0 2048)) }
+    ensures far { result.1 ≡ length (filter (lies_far (state_in evac.now)) (range_with_len 0 2048)) }
+    ensures far_bytes { result.2 ≡ sum (map (far_len (state_in evac.now)) (range_with_len 0 2048)) }
 {
-    let cells = core_of(evac).cells();
-    let mut all = 0;
     let mut near = 0;
-    for pointer in 0..cells.len() {
-        let (is_kept, is_near) = object_counts(cells[pointer]);
-        all += is_kept;
+    let mut far = 0;
+    let mut far_bytes = 0;
+    for pointer in 0..POINTERS {
+        let core = core_of(evac);
+        core.keeps_law();
+        let (is_near, is_far, len) = cell_counts(core.cell(pointer));
         near += is_near;
+        far += is_far;
+        far_bytes += len;
     }
-    (near as u16, (all - near) as u16)
+    (near, far, far_bytes)
 }
 
-// The bytes of far objects.
-fn count_far_bytes<D: Device + Drop>(evac: &Evac<Plain, D>) -> u64 {
-    let cells = core_of(evac).cells();
-    let mut bytes: u64 = 0;
-    for word in cells {
-        let (is_kept, is_near) = object_counts(*word);
-        if is_kept > is_near {
-            bytes = bytes.saturating_add(u64::from(pointer_len(*word)));
+// What a cell adds to these.
+fn cell_counts(word: u64) -> (u16, u16, u64)
+    requires some { IsSome (read_of word) }
+    ensures near { result.0 ≡ bit_of (says_here (read_of word)) }
+    ensures far { result.1 ≡ bit_of (says_far (read_of word)) }
+    ensures far_bytes { result.2 ≡ said_far_len (read_of word) }
+{
+    match PtrWord::known(word) {
+        PtrWord::Near { marks, .. } => { if marks.dropped { (0, 0, 0) } else { (1, 0, 0) } }
+        PtrWord::Far { len, marks, .. } => {
+            if marks.dropped {
+                (0, 0, 0)
+            } else {
+                (0, 1, u64::from(len))
+            }
         }
+        PtrWord::Free => (0, 0, 0),
     }
-    bytes
 }
 
 // The live, dead and unused bytes of all logs.
 fn count_bytes<D: Device + Drop>(evac: &Evac<Plain, D>) -> (u64, u64, u64)
-    ensures { result.0 + result.1 + result.2 ≡ 4096 * (state_in evac.now).logs }
+    ensures live { result.0 ≡ sum (map (live_bytes (state_in evac.now)) (range_with_len 0 (state_in evac.now).logs)) }
+    ensures whole { result.0 + result.1 + result.2 ≡ 4096 * (state_in evac.now).logs }
 {
     let mut live = 0;
     let mut dead = 0;
@@ -114,7 +132,8 @@ fn count_bytes<D: Device + Drop>(evac: &Evac<Plain, D>) -> (u64, u64, u64)
 // Those of one log.
 fn bytes_of_log<D: Device + Drop>(evac: &Evac<Plain, D>, log: u8) -> (u64, u64, u64)
     requires log { log < (state_in evac.now).logs }
-    ensures { result.0 + result.1 + result.2 ≡ 4096 }
+    ensures live { result.0 ≡ live_bytes (state_in evac.now) log }
+    ensures whole { result.0 + result.1 + result.2 ≡ 4096 }
 {
     core_of(evac).bytes_make_log();
     let row = evac.log(log).row;

@@ -5,9 +5,9 @@ ghost use Rattle.far_word.specs.declared.refused.Refused.{Refused as Refusal};
 ghost use Rattle.far_word.specs.declared.refused.Refused.TheVariants.{Length, NoPointer, NoRoom, NotHeld};
 ghost use Rattle.far_word.specs.declared.sizes.TheConstants.{POINTERS};
 ghost use Rattle.std.specs.Option.{option_map};
-ghost use Rattle.far_private.specs.Causes.{IsNotTaken};
+ghost use Rattle.far_private.specs.Causes.{IsNotGiven, IsNotTaken};
 ghost use Rattle.far_private.specs.Objects.{rewritten};
-ghost use Rattle.far_private.specs.Heap.{HeapLaw, IsFull, IsWhyNoAccess, IsWhyNoObject, access_refusal, bytes_in, is_length, object, with_new, with_written, without, new_object, is_logs};
+ghost use Rattle.far_private.specs.Heap.{HeapLaw, IsFull, IsWhyNoAccess, IsWhyNoObject, access_refusal, bytes_in, is_length, len_in, object, with_new, with_written, without, new_object, is_logs};
 
 mod calls;
 
@@ -122,8 +122,9 @@ impl<D: Device + Drop> PrivateHeap<D> {
     /// Reads bytes of an object, from one on, as many as there is room for.
     ///
     /// Refused, in this order: [`Refused::NotHeld`] where the pointer has no object, [`Refused::Range`] where no byte is asked for
-    /// or one past the object's end, and then only [`Refused::NoRoom`] or [`Refused::EpochsSpent`] as `alloc`, [`Refused::Memory`],
-    /// [`Refused::Device`] and [`Refused::Damaged`], for an object that lies far; the last only over a device that isn't honest.
+    /// or one past the object's end, and then only [`Refused::NoRoom`] or [`Refused::EpochsSpent`] as `alloc`, [`Refused::Memory`] or
+    /// [`Refused::Device`] where the device, asked for this object, failed so, and [`Refused::Damaged`] where it gave more or fewer bytes, which
+    /// no honest one does.
     pub fn read(&mut self, pointer: u16, from: usize, out: &mut [u8]) -> Result<(), Refused>
         ensures same { self.new ≡ self.old }
         ensures long { length out.new ≡ length out.old }
@@ -132,6 +133,7 @@ impl<D: Device + Drop> PrivateHeap<D> {
         ensures barred { (why : Refusal) → access_refusal self.old pointer from (length out.old) ≡ Some why → result ≡ Err why }
         ensures why { IfErr result (λ why. IsWhyNoAccess self.old.honest (access_refusal self.old pointer from (length out.old)) why) }
         ensures room { result ≡ Err NoRoom → 3 ≤ self.old.logs → IsNotTaken D D.writes (object self.old) }
+        ensures given { IfErr result (λ why. IsNotGiven D D.reads pointer (len_in self.old pointer) why) }
     {
         read_range(&mut self.evac, pointer, from, out)
     }
@@ -145,6 +147,7 @@ impl<D: Device + Drop> PrivateHeap<D> {
         ensures barred { (why : Refusal) → access_refusal self.old pointer from (length bytes.now) ≡ Some why → result ≡ Err why }
         ensures why { IfErr result (λ why. IsWhyNoAccess self.old.honest (access_refusal self.old pointer from (length bytes.now)) why) }
         ensures room { result ≡ Err NoRoom → 3 ≤ self.old.logs → IsNotTaken D D.writes (object self.old) }
+        ensures given { IfErr result (λ why. IsNotGiven D D.reads pointer (len_in self.old pointer) why) }
     {
         write_range(&mut self.evac, pointer, from, bytes)
     }

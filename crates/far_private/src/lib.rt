@@ -15,6 +15,7 @@ mod laws;
 mod looking;
 mod making;
 mod nearby;
+mod objects;
 mod places;
 mod ranges;
 mod rooms;

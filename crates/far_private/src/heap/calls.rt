@@ -1,16 +1,17 @@
 //! Calls of a heap beside those that make, read, write and drop an object: objects of given bytes, changes in one go, what is told without a
 //! fetch, rounds that are asked for, statistics.
 
-ghost use Rattle.std.specs.Prelude.{◌≡◌, ◌+◌, ◌<◌, ◌≤◌, ℕ, List, true, false, None, Some, Ok, Err, IfOk, IfErr, OnErr, OnOk, is_some, length, filter};
+ghost use Rattle.std.specs.Prelude.{◌≡◌, ◌+◌, ◌*◌, ◌^◌, ◌<◌, ◌≤◌, ℕ, List, true, false, None, Some, Ok, Err, IfOk, IfErr, OnErr, OnOk, is_some, length, filter};
 ghost use Rattle.std.specs.Fn.{FnOnceReturnsAtMut, FnOnceTakesAtMut};
 ghost use Rattle.far_word.specs.declared.refused.Refused.{Refused as Refusal};
 ghost use Rattle.far_word.specs.declared.refused.Refused.TheVariants.{Length, NoPointer, NoRoom};
 ghost use Rattle.far_word.specs.declared.sizes.TheConstants.{POINTERS};
 ghost use Rattle.far_log.specs.declared.row.LogRow.{LogRow};
-ghost use Rattle.far_private.specs.Causes.{IsNotTaken};
+ghost use Rattle.far_private.specs.Causes.{IsNotGiven, IsNotTaken};
 ghost use Rattle.far_private.specs.Changes.{Updates};
+ghost use Rattle.far_private.specs.FarBytes.{AreFar};
 ghost use Rattle.far_private.specs.NoRound.{IsNoRound};
-ghost use Rattle.far_private.specs.Heap.{IsFull, IsWhyNoAccess, IsWhyNoObject, access_refusal, has, is_length, object, size_of, structure_of, with_made, object_with};
+ghost use Rattle.far_private.specs.Heap.{IsFull, IsWhyNoAccess, IsWhyNoObject, access_refusal, has, is_length, len_in, object, size_of, structure_of, with_made, object_with};
 
 use crate::changing::change_range;
 use crate::counting::{Statistics, tell};
@@ -72,6 +73,7 @@ impl<D: Device + Drop> PrivateHeap<D> {
         ensures barred { (why : Refusal) → access_refusal self.old pointer from (length bytes.old) ≡ Some why → result ≡ Err why }
         ensures why { IfErr result (λ why. IsWhyNoAccess self.old.honest (access_refusal self.old pointer from (length bytes.old)) why) }
         ensures room { result ≡ Err NoRoom → 3 ≤ self.old.logs → IsNotTaken D D.writes (object self.old) }
+        ensures given { IfErr result (λ why. IsNotGiven D D.reads pointer (len_in self.old pointer) why) }
     {
         change_range(&mut self.evac, pointer, from, bytes, change)
     }
@@ -113,7 +115,10 @@ impl<D: Device + Drop> PrivateHeap<D> {
 
     /// What the heap has, and what it has done since it was made. Nothing changes.
     pub fn statistics(&self) -> Statistics
-        ensures { result.near + result.far ≡ length (filter is_some self.now.objects) }
+        ensures objects { result.near + result.far ≡ length (filter is_some self.now.objects) }
+        ensures far { AreFar self.now result.far result.far_bytes result.live }
+        ensures bytes { result.live + result.dead + result.unused ≡ 4096 * self.now.logs }
+        ensures rounds { result.rounds < 2 ^ 62 }
     {
         tell(&self.evac)
     }

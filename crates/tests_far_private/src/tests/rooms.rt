@@ -44,6 +44,11 @@ const DROPPED_ROOM: &str = "drop 3; new 3 4088; has 3 0 4088 0; fill 3 0 4088 13
 const STUBBORN: &str = "new 0 100; fill 0 0 100 5; many 100 4088; has 0 0 100 5; \
     new 1 100; fill 1 0 100 6; pack 100 4088; has 0 0 100 5; has 1 0 100 6;";
 
+// All is hot, and what the device refuses lies in front once a round was made: another brings room.
+const TWICE: &str =
+    "new 1 4088; new 2 4088; new 0 100; new 3 3900; has 1 0 4088; has 2 0 4088; has 0 0 100; has 3 0 3900; \
+    new 4 4088; has 0 0 100; has 1 0 4088; has 3 0 3900;";
+
 // The device fails in one call, and there is room all the same.
 const PASSES: &str = "new 0 4088; fill 0 0 4088 5; many 20 4088;";
 
@@ -98,6 +103,7 @@ const PLAYS: &[Play] = &[
     Play { name: "what_is_refused_stays", flaw: Flaw::Refuses, parts: &[FIVE, FULL, FIVE_ARE_THERE, VAIN_ROUNDS, FIVE_ARE_THERE, DROPPED_ROOM, FIVE_ARE_THERE], ..FOUR_LOGS },
     Play { name: "so_does_what_there_is_no_memory_for", flaw: Flaw::Starves, parts: &[FIVE, FULL, FIVE_ARE_THERE, VAIN_ROUNDS, FIVE_ARE_THERE, DROPPED_ROOM, FIVE_ARE_THERE], ..FOUR_LOGS },
     Play { name: "a_stubborn_object_keeps_no_other_log", flaw: Flaw::Dislikes, at: 100, parts: &[STUBBORN], ..FOUR_LOGS },
+    Play { name: "a_second_round_brings_room", flaw: Flaw::Dislikes, at: 100, parts: &[TWICE], ..FOUR_LOGS },
     Play { name: "pointers_of_each_part_have_room", parts: &[EACH_OWNER, BY_TURNS, BY_TURNS], ..FOUR_LOGS },
     Play { name: "a_fetch_is_counted_once", parts: &[COUNTED, READ_AGAIN], ..FOUR_LOGS },
     Play { name: "a_write_that_is_spared_is_counted", parts: &[COUNTED, SPARED], ..FOUR_LOGS },

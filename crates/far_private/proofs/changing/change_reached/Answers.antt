@@ -33,6 +33,7 @@ returns-in-Ok g c = record {
   refused = tt;
   kept = tt;
   outside = tt;
+  away = tt;
   stuck = tt;
 }
 
@@ -43,5 +44,6 @@ returns-in-Err g c = record {
   refused = c.take.ensures.keeps.objects;
   kept = c.in-Err.ensures.kept;
   outside = c.in-Err.ensures.outside;
+  away = c.in-Err.ensures.away;
   stuck = c.in-Err.ensures.stuck;
 }

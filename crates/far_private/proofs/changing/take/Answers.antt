@@ -29,6 +29,7 @@ returns-in-Ok g c =
           (near_read t c.bring_to_rest.new.evac.book.near.core.law c.args.pointer (used_on s t c.args.pointer k c.requires.used) (rests_says t c.args.pointer c.in-Ok.ensures.rests) c.args.from (length c.args.out.now) c.copy_near.new.out c.copy_near.ensures);
       kept = tt;
       outside = tt;
+      away = tt;
       stuck = tt;
     }
 
@@ -40,5 +41,6 @@ returns-in-Err g c = record {
   kept = refl;
   outside = outside_before (state_in c.args.evac.now) (state_in c.bring_to_rest.new.evac) c.bring_to_rest.ensures.keeps c.in-Err.why
       (away_outside g.D.Device.reads (state_in c.bring_to_rest.new.evac) c.args.pointer c.bring_to_rest.new.evac.book.device c.in-Err.why c.in-Err.ensures.away);
+  away = c.in-Err.ensures.away;
   stuck = c.in-Err.ensures.stuck;
 }

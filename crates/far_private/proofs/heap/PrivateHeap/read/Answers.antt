@@ -3,6 +3,7 @@ use Rattle.std.proofs.Common.{length}
 use Rattle.far_private.specs.Objects.{objects_in, state_in}
 use Rattle.far_private.proofs.HeapTies.{bars_so, done_so, read_so, stays_so, why_so}
 use Rattle.far_private.proofs.Lawful.{ends}
+use Rattle.far_private.proofs.NotGiven.{given_so, on_err, stays_away}
 use Rattle.far_private.proofs.RoomTold.{room_so}
 use Rattle.far_private.proofs.heap.PrivateHeap.read.Goals as goal
 
@@ -27,6 +28,12 @@ returns-clause-why g c = why_so (objects_in c.self.inside.evac) c.args.self.now 
 
 pub returns-clause-room : goal.returns-clause-room
 returns-clause-room g c = room_so g.D.Device.writes (state_in c.self.inside.evac) c.args.self.now c.self.view_is (ends (state_in c.self.inside.evac) c.self.inside.evac.book.near.core.law c.self.invariant.settled) c.read_range.result c.read_range.ensures.stuck
+
+pub returns-clause-given : goal.returns-clause-given
+returns-clause-given g c = given_so g.D.Device.reads (objects_in c.self.inside.evac) c.args.self.now c.self.view_is (ends (state_in c.self.inside.evac) c.self.inside.evac.book.near.core.law c.self.invariant.settled)
+    (state_in c.read_range.new.evac) c.args.pointer c.read_range.new.evac.book.device c.args.from (length c.args.out.now) c.read_range.result c.read_range.ensures.barred
+    (on_err c.read_range.result c.read_range.ensures.keeps.objects)
+    (λ e. stays_away g.D.Device.reads (state_in c.read_range.new.evac) c.args.pointer c.read_range.new.evac.book.device c.read_range.result (c.read_range.ensures.far e))
 
 pub invariant_of-self : goal.invariant_of-self
 invariant_of-self g c = keeps_kept (state_in c.self.inside.evac) (state_in c.read_range.new.evac) c.self.inside.free c.self.invariant c.read_range.ensures.keeps
