@@ -4,3 +4,4 @@ pub mod History
 pub mod Plans
 pub mod Pool
 pub mod Statistics
+pub mod Numbers

@@ -4,7 +4,7 @@ use Rattle.std.specs.Option.{option_map}
 use Rattle.far_word.specs.declared.refused.Refused.{Refused}
 use Rattle.far_word.specs.declared.refused.Refused.TheVariants.{EpochsSpent, Length, NoPointer, NoRoom, NotHeld, Range}
 use Rattle.far_word.specs.declared.sizes.TheConstants.{POINTERS}
-use Rattle.far_private.specs.Heap.{is_length}
+use Rattle.far_private.specs.Heap.{IsOutside, is_length}
 use Rattle.far_private.specs.Objects.{Object, bytes_of, len_of, rewritten}
 use Rattle.far_pool.specs.declared.handle.Handle.{Handle}
 
@@ -116,6 +116,11 @@ pub record UpdatesOn (outcome : List ℕ → Unit {0} → List ℕ → Type 0) (
 -- ---- when an access is refused before anything is done: there is no object; or the range is empty, or passes the object's end
 abbrev pub refusal_of : Option Object → ℕ → ℕ → Option Refused
 refusal_of o from count = if is_some o then (if nat_lt 0 count && nat_le (from + count) (len_of o) then None else Some Range) else Some NotHeld
+
+-- why an object wasn't read whole: there is none; or there is no memory for it, or it doesn't come
+abbrev pub IsWhyNotWhole : Bool → Option Object → Refused → Type 0
+IsWhyNotWhole honest o NotHeld = o ≡ None
+IsWhyNotWhole honest o why = (is_some o ≡ true) × IsOutside honest why
 
 -- why no object was made: its length is none that an object has; or the heap whose turn it is has no room, or none has a free pointer
 abbrev pub IsWhyNone : ℕ → Refused → Type 0

@@ -1,6 +1,6 @@
 //! A heap, with how often each of its pointers was given up.
 
-ghost use Rattle.std.specs.Prelude.{◌≡◌, ◌<◌, ◌≤◌, ◌+◌, ℕ, List, true, false, None, Some, Err, is_some, filter, IfNone, IfOk, IfErr, IfSome, OnErr, OnOk, length, slice_range};
+ghost use Rattle.std.specs.Prelude.{◌≡◌, ◌<◌, ◌≤◌, ◌+◌, ℕ, List, true, false, None, Some, Err, is_some, filter, IfNone, IfOk, IfErr, IfSome, OnErr, OnOk, length, slice_range, vec_len, []};
 ghost use Rattle.std.specs.Fn.{FnOnceReturnsAtMut, FnOnceTakesAtMut};
 ghost use Rattle.std.specs.Option.{option_map};
 ghost use Rattle.far_word.specs.declared.refused.Refused.{Refused as Refusal};
@@ -8,7 +8,7 @@ ghost use Rattle.far_word.specs.declared.refused.Refused.TheVariants.{NotHeld};
 ghost use Rattle.far_word.specs.declared.sizes.TheConstants.{POINTERS};
 ghost use Rattle.far_private.specs.Heap.{IsWell, IsWhyNoAccess, is_length, new_object, object, object_with, size_of, structure_of};
 ghost use Rattle.far_private.specs.Objects.{bytes_of, rewritten};
-ghost use Rattle.far_pool.specs.Pool.{IsWhyNone, UpdatesOn, dropping, found, generation_on, object_on, putting, refusal_of};
+ghost use Rattle.far_pool.specs.Pool.{IsWhyNone, IsWhyNotWhole, UpdatesOn, dropping, found, generation_on, object_on, putting, refusal_of};
 
 use far_device::Device;
 use far_private::{PrivateHeap, Statistics};
@@ -123,6 +123,32 @@ impl<D: Device + Drop> Counted<D> {
         }
     }
 
+    // How many bytes the object of a pointer has, whatever its generation.
+    #[inline(always)]
+    pub(crate) fn len_now(&self, pointer: u16) -> Option<u16>
+        ensures { result ≡ size_of (object_on self.now pointer) }
+    {
+        self.heap.len_of(pointer)
+    }
+
+    // Reads of the object of a pointer, whatever its generation.
+    #[inline(always)]
+    pub(crate) fn read_now(
+        &mut self,
+        pointer: u16,
+        from: usize,
+        out: &mut [u8],
+    ) -> Result<(), Refused>
+        ensures same { self.new ≡ self.old }
+        ensures long { length out.new ≡ length out.old }
+        ensures read { OnOk result (IfSome (bytes_of (object_on self.old pointer)) (λ bytes. out.new ≡ slice_range bytes from (from + length out.old))) }
+        ensures done { OnOk result (refusal_of (object_on self.old pointer) from (length out.old) ≡ None) }
+        ensures barred { (why : Refusal) → refusal_of (object_on self.old pointer) from (length out.old) ≡ Some why → result ≡ Err why }
+        ensures why { IfErr result (λ why. IsWhyNoAccess self.old.honest (refusal_of (object_on self.old pointer) from (length out.old)) why) }
+    {
+        self.heap.read(pointer, from, out)
+    }
+
     #[inline(always)]
     pub(crate) fn len_of(&self, pointer: u16, generation: u16) -> Option<u16>
         ensures { result ≡ size_of (found self.now pointer generation) }
@@ -130,7 +156,7 @@ impl<D: Device + Drop> Counted<D> {
         if !self.knows(pointer, generation) {
             return None;
         }
-        self.heap.len_of(pointer)
+        self.len_now(pointer)
     }
 
     pub(crate) fn structure_of(&self, pointer: u16, generation: u16) -> Option<u8>
@@ -169,7 +195,39 @@ impl<D: Device + Drop> Counted<D> {
         if !self.knows(pointer, generation) {
             return Err(Refused::NotHeld);
         }
-        self.heap.read(pointer, from, out)
+        self.read_now(pointer, from, out)
+    }
+
+    // Reads an object whole into a vector, in place of what that has.
+    pub(crate) fn read_into(
+        &mut self,
+        pointer: u16,
+        generation: u16,
+        out: &mut Vec<u8>,
+    ) -> Result<(), Refused>
+        ensures same { self.new ≡ self.old }
+        ensures read { OnOk result (IfSome (bytes_of (found self.old pointer generation)) (λ bytes. out.new.items ≡ bytes)) }
+        ensures len { OnOk result (size_of (found self.old pointer generation) ≡ Some (vec_len out.new)) }
+        ensures refused { OnErr result (out.new.items ≡ []) }
+        ensures barred { found self.old pointer generation ≡ None → result ≡ Err NotHeld }
+        ensures why { IfErr result (λ why. IsWhyNotWhole self.old.honest (found self.old pointer generation) why) }
+    {
+        self.keeps_law();
+        let Some(len) = self.len_of(pointer, generation) else {
+            out.clear();
+            return Err(Refused::NotHeld);
+        };
+        let Ok(()) = out.resize(len as usize, 0) else {
+            out.clear();
+            return Err(Refused::Memory);
+        };
+        match self.read(pointer, generation, 0, out.as_mut_slice()) {
+            Ok(()) => Ok(()),
+            Err(why) => {
+                out.clear();
+                Err(why)
+            }
+        }
     }
 
     #[inline(always)]

@@ -23,7 +23,7 @@ pub struct WorkerStatistics {
     pub unused: u64,
     /// Bytes of the objects on the devices alone, headers not counted.
     pub far_bytes: u64,
-    /// Calls of `read`, `write` and `update`, also those that were refused, modulo 2^64.
+    /// Calls of `read`, `read_into`, `write` and `update`, reads and writes by number, also those that were refused, modulo 2^64.
     pub accesses: u64,
     /// Objects that were brought near.
     pub fetches: u64,

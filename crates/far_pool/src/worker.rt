@@ -1,15 +1,17 @@
 //! Heaps that one thread wholly owns, by handles.
 
-ghost use Rattle.std.specs.Prelude.{◌≡◌, ◌<◌, ◌+◌, ◌≤◌, ℕ, List, true, false, None, Some, Err, length, slice_range, IfOk, IfErr, IfSome, OnErr, OnOk};
+ghost use Rattle.std.specs.Prelude.{◌≡◌, ◌<◌, ◌+◌, ◌≤◌, ℕ, List, true, false, None, Some, Err, length, slice_range, IfOk, IfErr, IfSome, OnErr, OnOk, vec_len, []};
 ghost use Rattle.std.specs.Fn.{FnOnceReturnsAtMut, FnOnceTakesAtMut};
 ghost use Rattle.far_word.specs.declared.refused.Refused.{Refused as Refusal};
 ghost use Rattle.far_word.specs.declared.refused.Refused.TheVariants.{Length, NotHeld};
 ghost use Rattle.far_private.specs.Heap.{IsWell, IsWhyNoAccess, is_length, new_object, object_with, size_of, structure_of};
 ghost use Rattle.far_pool.specs.declared.handle.Handle.{Handle as AnyHandle};
-ghost use Rattle.far_pool.specs.Pool.{Changes, IsWhyNone, Makes, NextGeneration, Same, Updates, Writes, at, bytes_at, generation_in, generation_on, has, object_on, refusal_of};
+ghost use Rattle.far_pool.specs.Pool.{Changes, IsWhyNone, IsWhyNotWhole, Makes, NextGeneration, Same, Updates, Writes, at, bytes_at, generation_in, generation_on, has, object_on, refusal_of};
+ghost use Rattle.far_pool.specs.Numbers.{IsOfHeaps};
 ghost use Rattle.far_pool.specs.declared.worker.TheConstants.{MOST_HEAPS};
 
 mod handles;
+mod objects;
 mod telling;
 
 use crate::counted::Counted;
@@ -34,7 +36,7 @@ struct Parts<D: Device + Drop, M: MakeDevice<D> + Drop> {
     shelves: Vec<Counted<D>>,
     // The heaps that may have a free pointer, each once, the next first. Nothing that is promised rests on it.
     open: VecDeque<u32>,
-    // How often an object was to be read, written or updated.
+    // How often an object was to be read, written or updated, by handle or by number, whether or not it was.
     accesses: u64,
 }
 
@@ -195,6 +197,7 @@ impl<D: Device + Drop, M: MakeDevice<D> + Drop> Worker<D, M> {
     fn alloc_zeros_in(&mut self, heap: u32, len: u16, structure: u8) -> Result<Handle, Refused>
         requires { heap < length self.old.shelves }
         ensures made { IfOk result (λ handle. Makes handle (new_object self.old.honest len structure) self.old self.new) }
+        ensures inside { IfOk result (λ handle. IsOfHeaps MOST_HEAPS handle) }
         ensures done { OnOk result (is_length len ≡ true) }
         ensures refused { OnErr result (self.new ≡ self.old) }
         ensures why { IfErr result (λ why. IsWhyNone len why) }
@@ -219,6 +222,7 @@ impl<D: Device + Drop, M: MakeDevice<D> + Drop> Worker<D, M> {
     fn alloc_in(&mut self, heap: u32, bytes: &[u8], structure: u8) -> Result<Handle, Refused>
         requires { heap < length self.old.shelves }
         ensures made { IfOk result (λ handle. Makes handle (object_with self.old.honest structure bytes.now) self.old self.new) }
+        ensures inside { IfOk result (λ handle. IsOfHeaps MOST_HEAPS handle) }
         ensures done { OnOk result (is_length (length bytes.now) ≡ true) }
         ensures refused { OnErr result (self.new ≡ self.old) }
         ensures why { IfErr result (λ why. IsWhyNone (length bytes.now) why) }
@@ -246,6 +250,7 @@ impl<D: Device + Drop, M: MakeDevice<D> + Drop> Worker<D, M> {
     /// [`Refused::EpochsSpent`] once 2^62 rounds were made. The next call is another heap's.
     pub fn alloc_zeros(&mut self, len: u16, structure: u8) -> Result<Handle, Refused>
         ensures made { IfOk result (λ handle. Makes handle (new_object self.old.honest len structure) self.old self.new) }
+        ensures inside { IfOk result (λ handle. IsOfHeaps MOST_HEAPS handle) }
         ensures done { OnOk result (is_length len ≡ true) }
         ensures refused { OnErr result (self.new ≡ self.old) }
         ensures long { is_length len ≡ false → result ≡ Err Length }
@@ -263,6 +268,7 @@ impl<D: Device + Drop, M: MakeDevice<D> + Drop> Worker<D, M> {
     /// Makes a new object of these bytes, as [`Worker::alloc_zeros`] does.
     pub fn alloc(&mut self, bytes: &[u8], structure: u8) -> Result<Handle, Refused>
         ensures made { IfOk result (λ handle. Makes handle (object_with self.old.honest structure bytes.now) self.old self.new) }
+        ensures inside { IfOk result (λ handle. IsOfHeaps MOST_HEAPS handle) }
         ensures done { OnOk result (is_length (length bytes.now) ≡ true) }
         ensures refused { OnErr result (self.new ≡ self.old) }
         ensures long { is_length (length bytes.now) ≡ false → result ≡ Err Length }
@@ -339,6 +345,27 @@ impl<D: Device + Drop, M: MakeDevice<D> + Drop> Worker<D, M> {
             return Err(Refused::NotHeld);
         }
         self.parts.shelves[at].update(handle.pointer, handle.generation, from, bytes, change)
+    }
+
+    /// Reads an object whole into `out`, in place of the bytes that `out` had: one buffer serves many reads, and grows to the longest. It is one access.
+    ///
+    /// Refused, in this order: [`Refused::NotHeld`] exactly where the worker hasn't got the object; [`Refused::Memory`] where `out` can't grow; and then as a far object
+    /// doesn't come. `out` is empty then.
+    pub fn read_into(&mut self, handle: Handle, out: &mut Vec<u8>) -> Result<(), Refused>
+        ensures same { self.new ≡ self.old }
+        ensures read { OnOk result (IfSome (bytes_at self.old handle) (λ bytes. out.new.items ≡ bytes)) }
+        ensures len { OnOk result (size_of (at self.old handle) ≡ Some (vec_len out.new)) }
+        ensures refused { OnErr result (out.new.items ≡ []) }
+        ensures barred { at self.old handle ≡ None → result ≡ Err NotHeld }
+        ensures why { IfErr result (λ why. IsWhyNotWhole self.old.honest (at self.old handle) why) }
+    {
+        self.parts.accesses = self.parts.accesses.wrapping_add(1);
+        let at = handle.heap as usize;
+        if at >= self.parts.shelves.len() {
+            out.clear();
+            return Err(Refused::NotHeld);
+        }
+        self.parts.shelves[at].read_into(handle.pointer, handle.generation, out)
     }
 
     /// Drops an object. From then on its handle is refused, until its pointer was given 65,536 times more. Refused [`Refused::NotHeld`] alone, exactly where the worker

@@ -2,6 +2,8 @@
 
 mod dealing;
 mod devices;
+mod large;
+mod numbers;
 mod planning;
 mod readme;
 mod stale;

@@ -2,7 +2,9 @@
 
 ghost use Rattle.std.specs.Prelude.{◌≡◌, false};
 
+use crate::tests::large::pattern;
 use far_file::{FileDevice, MemStorage, Storage, StorageFault};
+use far_large::Large;
 use far_pool::{Handle, Layout, MakeDevice, Worker};
 use far_word::Refused;
 use std::alloc::Global;
@@ -102,6 +104,22 @@ fn what_no_device_takes_stays(rt: HostRuntime) {
         Ok(mut pool) => assert!(rt; keeps_on(&mut pool) == Ok(true)),
         Err(_) => assert!(rt; false),
     }
+}
+
+// There is no room for all parts of a large value: none stays.
+fn leaves_no_part(alloc: Global) -> Result<bool, Refused> {
+    let mut pool = pool(alloc, 2, 2)?;
+    let all = pattern(alloc, 65_536)?;
+    let refused = Large::put(alloc, &mut pool, all.as_slice()).err() == Some(Refused::NoRoom);
+    let left = count(&pool);
+    let few = pattern(alloc, 20_000)?;
+    let put = Large::put(alloc, &mut pool, few.as_slice()).is_ok();
+    Ok(refused && left == 0 && put && count(&pool) == 5)
+}
+
+#[test]
+fn a_value_that_no_device_takes_leaves_no_part(rt: HostRuntime) {
+    assert!(rt; leaves_no_part(rt.alloc()) == Ok(true));
 }
 
 #[test]

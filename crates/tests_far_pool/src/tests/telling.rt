@@ -77,13 +77,16 @@ fn is_told(alloc: Global) -> Result<bool, Refused> {
     let before = worker.statistics();
     worker.read(first, 0, &mut [0])?;
     let none = worker.read(Handle::from_bits(u64::MAX), 0, &mut [0]);
+    let mut whole = Vec::new(alloc);
+    worker.read_into(first, &mut whole)?;
     let told = worker.statistics();
     Ok(
         none == Err(Refused::NotHeld)
+            && whole.len() == 400
             && before.accesses == made.saturating_mul(3)
             && before.fetches == 0
             && before.misses_per_thousand() == 0
-            && told.accesses == before.accesses.saturating_add(2)
+            && told.accesses == before.accesses.saturating_add(3)
             && told.fetches == 1
             && told.misses_per_thousand() == 4
             && told.worst == Some(2)
