@@ -1,12 +1,12 @@
 -- An index made anew has the same entries.
-use Rattle.std.proofs.Common.{◌≡◌, ◌≢◌, ℕ, ◌+◌, ◌<◌, ◌≤◌, List, length, refl, sym, ◌∙◌, ap, subst, inl, inr, arith}
+use Rattle.std.proofs.Common.{◌≡◌, ◌≢◌, ℕ, ◌+◌, List, length, sym, ◌∙◌, ap, subst, inl, inr, arith}
 use Rattle.std.proofs.lemmas.Bool.{cases_eq, cases_lt}
 use Rattle.std.proofs.lemmas.List.{get_or_past}
 use Rattle.far_index.specs.declared.slot.Slot.{Slot}
-use Rattle.far_index.specs.declared.slot.Slot.TheVariants.{Empty, Gone, Full}
-use Rattle.far_index.specs.Slots.{slot_at, home, Reached}
+use Rattle.far_index.specs.declared.slot.Slot.TheVariants.{Empty, Full}
+use Rattle.far_index.specs.Slots.{slot_at}
 use Rattle.far_index.specs.Grown.{Placed, Grown}
-use Rattle.far_index.proofs.Words.{full_empty, full_tag, full_number}
+use Rattle.far_index.proofs.Words.{full_empty, full_number}
 use Rattle.far_index.proofs.Reaching.{placed_reached}
 
 pub grown_skip : (buckets n : ℕ) (ss fs : List Slot) → Grown buckets n ss fs → ((t h : ℕ) → slot_at ss n ≢ Full t h) → Grown buckets (n + 1) ss fs

@@ -1,8 +1,8 @@
 -- One slot is written: each entry can be reached as before.
-use Rattle.std.proofs.Common.{◌≡◌, ◌≢◌, ℕ, ◌<◌, ◌≤◌, List, refl, sym, ◌∙◌, ap, subst, inl, inr, arith}
+use Rattle.std.proofs.Common.{◌≡◌, ◌≢◌, ℕ, ◌<◌, ◌≤◌, List, sym, ◌∙◌, subst, inl, inr}
 use Rattle.std.proofs.lemmas.Bool.{cases_eq}
 use Rattle.far_index.specs.declared.slot.Slot.{Slot}
-use Rattle.far_index.specs.declared.slot.Slot.TheVariants.{Empty, Gone, Full}
+use Rattle.far_index.specs.declared.slot.Slot.TheVariants.{Empty, Full}
 use Rattle.far_index.specs.Slots.{slot_at, home, Reached}
 use Rattle.far_index.specs.Grown.{Placed}
 use Rattle.far_index.proofs.Words.{full_empty, full_tag}

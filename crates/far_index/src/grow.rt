@@ -1,7 +1,7 @@
 //! An entry more, and more homes: the index is made anew from its own tags.
 
 ghost use Rattle.std.specs.Prelude.{◌≡◌, ◌≢◌, ℕ, ◌+◌, ◌<◌, ◌≤◌, IfOk, OnOk, OnErr, length};
-ghost use Rattle.far_index.specs.Slots.{slot_at, home};
+ghost use Rattle.far_index.specs.Slots.{slot_at, home, IsTag};
 ghost use Rattle.far_index.specs.Grown.{Placed, Grown};
 
 use crate::index::{Index, free_place, make_place};
@@ -10,7 +10,8 @@ use crate::tag::home_of;
 use std::alloc::{AllocError, Global};
 
 /// A place for an entry: a slot without one, at its home or later.
-pub fn find_place(slots: &mut Index, buckets: usize, tag: u32) -> Result<usize, AllocError>
+pub fn find_place(slots: &mut Index, buckets: usize, tag: u64) -> Result<usize, AllocError>
+    requires tag { IsTag tag }
     requires some { 0 < buckets }
     requires fits { buckets ≤ length slots.old }
     ensures same { (j : ℕ) → slot_at slots.new j ≡ slot_at slots.old j }
@@ -28,8 +29,8 @@ pub fn find_place(slots: &mut Index, buckets: usize, tag: u32) -> Result<usize, 
 }
 
 /// Writes an entry's slot into an index that doesn't have it.
-fn move_in(slots: &mut Index, buckets: usize, tag: u32, number: u32) -> Result<(), AllocError>
-    requires tag { 0 < tag }
+fn move_in(slots: &mut Index, buckets: usize, tag: u64, number: u32) -> Result<(), AllocError>
+    requires tag { IsTag tag }
     requires some { 0 < buckets }
     requires fits { buckets ≤ length slots.old }
     ensures { OnOk result (Placed buckets tag number slots.old slots.new) }

@@ -1,26 +1,30 @@
 //! The near index: a word a slot.
 
 ghost use Rattle.std.specs.Prelude.{◌≡◌, ◌≢◌, ℕ, ◌<◌, ◌≤◌, ◌++◌, ◌∷◌, [], true, false, IfOk, OnOk, OnErr, length, replicate, slice_set};
-ghost use Rattle.far_index.specs.Slots.{slot_at, Fits};
+ghost use Rattle.far_index.specs.Slots.{slot_at, Fits, IsTag};
 
-use crate::slot::{Slot, pack, unpack};
+use crate::slot::{Met, Slot, pack, unpack};
 use std::alloc::{AllocError, Global};
 use std::marker::Model;
 
-/// Slots, 8 bytes each.
+/// Slots, 10 bytes each. A search reads the words alone, until one has the upper bits of its tag.
 #[derive(Drop)]
 pub struct Index {
     words: Vec<u64>,
+    // The lower 16 bits of tags.
+    rests: Vec<u16>,
 }
 
 impl Model for Index {
-    ghost use Rattle.std.specs.Prelude.{List};
+    ghost use Rattle.std.specs.Prelude.{◌≡◌, List, length};
     ghost use Rattle.far_index.specs.Slots.{slots_of};
     ghost use Rattle.far_index.specs.declared.slot.Slot.{Slot};
 
     ghost Value = { List Slot };
 
-    ghost view = { λ x. slots_of x.words.items };
+    ghost view = { λ x. slots_of x.words.items x.rests.items };
+
+    ghost invariant = { λ x. length x.rests.items ≡ length x.words.items };
 }
 
 impl Index {
@@ -29,7 +33,8 @@ impl Index {
         ensures { IfOk result (λ x. x ≡ replicate len Slot.Empty) }
     {
         let words = vec![in alloc; 0u64; len]?;
-        Ok(Index { words })
+        let rests = vec![in alloc; 0u16; len]?;
+        Ok(Index { words, rests })
     }
 
     /// How many slots there are.
@@ -45,7 +50,7 @@ impl Index {
         ensures is { result ≡ slot_at self.now i }
         ensures fits { Fits result }
     {
-        unpack(self.words[i])
+        unpack(self.words[i], self.rests[i])
     }
 
     /// Whether a slot has an entry.
@@ -54,17 +59,36 @@ impl Index {
         ensures full { result ≡ true → slot_at self.now i ≢ Slot.Empty }
         ensures free { result ≡ false → (t h : ℕ) → slot_at self.now i ≢ Slot.Full t h }
     {
-        match self.at(i) {
-            Slot::Full(_, _) => true,
-            _ => false,
-        }
+        4_294_967_296 <= self.words[i]
     }
 
     /// Whether a slot is empty.
     pub fn is_empty_at(&self, i: usize) -> bool
         requires { i < length self.now }
     {
-        matches!(self.at(i), Slot::Empty)
+        self.words[i] == 0
+    }
+
+    /// What a search for a tag meets in a slot.
+    pub fn meet(&self, i: usize, tag: u64) -> Met
+        requires within { i < length self.now }
+        requires tag { IsTag tag }
+        ensures end { result ≡ Met.End → slot_at self.now i ≡ Slot.Empty }
+        ensures other { result ≡ Met.Other → (slot_at self.now i ≢ Slot.Empty) × ((h : ℕ) → slot_at self.now i ≢ Slot.Full tag h) }
+        ensures tag { (h : ℕ) → result ≡ Met.Tag h → slot_at self.now i ≡ Slot.Full tag h }
+    {
+        let word = self.words[i];
+        if word == 0 {
+            return Met::End;
+        }
+        if word / 4_294_967_296 != tag / 65_536 {
+            return Met::Other;
+        }
+        let rest = lower_bits(self.rests[i]);
+        if rest != tag % 65_536 {
+            return Met::Other;
+        }
+        Met::Tag((word % 4_294_967_296) as u32)
     }
 
     /// Writes a slot.
@@ -73,7 +97,9 @@ impl Index {
         requires fits { Fits slot }
         ensures { self.new ≡ slice_set self.old i slot }
     {
-        self.words[i] = pack(slot);
+        let (word, rest) = pack(slot);
+        self.words[i] = word;
+        self.rests[i] = rest;
     }
 
     /// One slot more, which is empty.
@@ -82,8 +108,21 @@ impl Index {
         ensures refused { OnErr result (self.new ≡ self.old) }
     {
         self.words.push(0)?;
-        Ok(())
+        match self.rests.push(0) {
+            Ok(()) => Ok(()),
+            Err(why) => {
+                self.words.pop();
+                Err(why.into())
+            }
+        }
     }
+}
+
+fn lower_bits(rest: u16) -> u64
+    ensures is { result ≡ rest }
+    ensures low { result < 65536 }
+{
+    rest as u64
 }
 
 /// The first slot without an entry from a place on, or the number of slots.

@@ -1,4 +1,4 @@
-//! A near index by open addressing: a word a slot, with a tag and a number. The search for a key begins at its home and goes up to the
+//! A near index by open addressing: 10 bytes a slot, for a tag of 48 bits and a number of 32. The search for a key begins at its home and goes up to the
 //! first empty slot, past the last home too.
 #![tactic(auto)]
 
@@ -9,5 +9,5 @@ mod tag;
 
 pub use grow::{find_place, grown, slots_for};
 pub use index::Index;
-pub use slot::Slot;
+pub use slot::{Met, Slot};
 pub use tag::{home_of, seeded, tag_of_key};

@@ -2,7 +2,7 @@
 
 ghost use Rattle.std.specs.Prelude.{◌≡◌, ◌<◌, ◌%◌};
 ghost use Rattle.std.specs.Hash.DefaultHasher as sip;
-ghost use Rattle.far_index.specs.Slots.{home};
+ghost use Rattle.far_index.specs.Slots.{home, IsTag};
 ghost use Rattle.far_index.specs.Tags.{tag_of};
 
 use std::hash::{DefaultHasher, Hasher};
@@ -16,27 +16,22 @@ pub fn seeded(seed: [u8; 16]) -> DefaultHasher
     hasher
 }
 
-/// The tag of a key: never 0.
-pub fn tag_of_key(seeded: &DefaultHasher, key: &[u8]) -> u32
+/// The tag of a key, of 48 bits.
+pub fn tag_of_key(seeded: &DefaultHasher, key: &[u8]) -> u64
     ensures is { result ≡ tag_of seeded.now key.now }
-    ensures some { 0 < result }
+    ensures tag { IsTag result }
 {
     let mut hasher = *seeded;
     hasher.write(key);
-    low_half(hasher.finish()).max(1)
-}
-
-fn low_half(hash: u64) -> u32
-    ensures { result ≡ hash % 4294967296 }
-{
-    (hash % 4_294_967_296) as u32
+    (hasher.finish() % 281_474_976_710_656).max(65_536)
 }
 
 /// The home of a tag: homes are in the order of tags.
-pub fn home_of(buckets: usize, tag: u32) -> usize
-    requires { 0 < buckets }
+pub fn home_of(buckets: usize, tag: u64) -> usize
+    requires some { 0 < buckets }
+    requires tag { IsTag tag }
     ensures is { result ≡ home buckets tag }
     ensures within { result < buckets }
 {
-    (tag as u128 * buckets as u128 / 4_294_967_296) as usize
+    (tag as u128 * buckets as u128 / 281_474_976_710_656) as usize
 }

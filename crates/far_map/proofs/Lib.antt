@@ -8,3 +8,5 @@ pub mod Causes
 pub mod Emptying
 pub mod Fronts
 pub mod PutLast
+pub mod Listing
+pub mod EachOnce

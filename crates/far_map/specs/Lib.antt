@@ -5,3 +5,4 @@ pub mod Plain
 pub mod Causes
 pub mod Finding
 pub mod Laws
+pub mod Listed

@@ -36,10 +36,21 @@ pub fn join_entry(alloc: Global, key: &[u8], value: &[u8]) -> Result<Vec<u8>, Al
     ensures fits { IfOk result (λ v. is_length (length v.items) ≡ true) }
 {
     let head = [(key.len() % 256) as u8, (key.len() / 256) as u8];
-    let mut bytes = Vec::from_slice(alloc, &head)?;
+    let mut bytes = Vec::with_capacity(alloc, 2 + key.len() + value.len())?;
+    bytes.extend_from_slice(&head)?;
     bytes.extend_from_slice(key)?;
     bytes.extend_from_slice(value)?;
     Ok(bytes)
+}
+
+/// The value of an entry's bytes.
+pub fn value_of(bytes: &[u8]) -> &[u8]
+    ensures { (e : Entry) → decoded bytes.now ≡ Some e → result.now ≡ e.1 }
+{
+    let Some((_, value)) = split_entry(bytes) else {
+        return bytes;
+    };
+    value
 }
 
 /// Writes the value of an entry's bytes to `out`.

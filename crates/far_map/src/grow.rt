@@ -35,7 +35,7 @@ pub fn rebuild(alloc: Global, near: &mut Near, buckets: usize) -> Result<(), All
     Ok(())
 }
 
-/// Makes the index anew where three quarters of its homes are taken: twice as large, if by entries. If there is no
+/// Makes the index anew where seven eighths of its homes are taken: twice as large, if by entries. If there is no
 /// memory for it, the old one goes on.
 pub fn make_roomy(alloc: Global, near: &mut Near)
     ensures sound { (f : Far) → Sound (plain f near.old) → Sound (plain f near.new) }
@@ -43,7 +43,7 @@ pub fn make_roomy(alloc: Global, near: &mut Near)
     ensures seed { near.new.seed ≡ near.old.seed }
 {
     let buckets = near.buckets;
-    if buckets == 0 || near.used < buckets - buckets / 4 {
+    if buckets == 0 || near.used < buckets - buckets / 8 {
         return;
     }
     let more = homes(buckets, near.count);

@@ -2,6 +2,7 @@
 #![tactic(auto)]
 
 mod buffer;
+mod each;
 mod entry;
 mod grow;
 mod laws;
@@ -12,6 +13,6 @@ mod parts;
 mod steps;
 mod whole;
 
-pub use laws::what_was_put_last;
+pub use laws::{entries_are_told, what_was_put_last};
 pub use map::Map;
 pub use whole::Statistics;

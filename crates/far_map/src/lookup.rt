@@ -3,6 +3,7 @@
 ghost use Rattle.std.specs.Prelude.{◌≡◌, ◌≢◌, ℕ, ◌≤◌, true, Some, IfOk, IfErr, IfSome, IfNone, take};
 ghost use Rattle.std.specs.Bool.{Decides};
 ghost use Rattle.far_objects.specs.declared.objects.TheConstants.{MOST as most};
+ghost use Rattle.far_index.specs.Slots.{IsTag};
 ghost use Rattle.far_index.specs.Tags.{tag_of};
 ghost use Rattle.far_map.specs.Entries.{key_in};
 ghost use Rattle.far_map.specs.Finding.{Stands};
@@ -11,7 +12,7 @@ ghost use Rattle.far_map.specs.Plain.{Sound, plain};
 
 use crate::entry::split_entry;
 use crate::parts::Parts;
-use far_index::{Slot, home_of};
+use far_index::{Met, home_of};
 use far_objects::Objects;
 use far_word::Refused;
 
@@ -63,9 +64,10 @@ fn read_is<O: Objects + Drop>(
 /// Where a key's entry stands; then the buffer begins with the object's bytes.
 pub fn find<O: Objects + Drop>(
     parts: &mut Parts<O>,
-    tag: u32,
+    tag: u64,
     key: &[u8],
 ) -> Result<Option<Found>, Refused>
+    requires some { IsTag tag }
     requires tag { tag ≡ tag_of parts.old.near.seed key.now }
     requires sound { Sound (plain (O.far parts.old.worker) parts.old.near) }
     ensures far { O.far parts.new.worker ≡ O.far parts.old.worker }
@@ -78,18 +80,14 @@ pub fn find<O: Objects + Drop>(
 {
     let home = home_of(parts.near.buckets, tag);
     for place in home..parts.near.slots.len() {
-        match parts.near.slots.at(place) {
-            Slot::Empty => return Ok(None),
-            Slot::Gone => {}
-            Slot::Full(its, number) => {
-                if its == tag {
-                    match read_is(parts, number, key) {
-                        Ok(Some(len)) => return Ok(Some(Found { place, number, len })),
-                        Ok(None) => {}
-                        Err(why) => return Err(why),
-                    }
-                }
-            }
+        match parts.near.slots.meet(place, tag) {
+            Met::End => return Ok(None),
+            Met::Other => {}
+            Met::Tag(number) => match read_is(parts, number, key) {
+                Ok(Some(len)) => return Ok(Some(Found { place, number, len })),
+                Ok(None) => {}
+                Err(why) => return Err(why),
+            },
         }
     }
     Ok(None)

@@ -2,12 +2,13 @@
 
 ghost use Rattle.std.specs.Prelude.{◌≡◌, ℕ, ◌<◌, true, false, not, Some, None, Err, IfOk, IfErr, OnOk, OnErr, MatchOption};
 ghost use Rattle.std.specs.FinMap as map;
+ghost use Rattle.std.specs.Fn.{FnOnceReturnsAt};
 ghost use Rattle.far_word.specs.declared.refused.Refused.TheVariants.{Length, Memory};
 ghost use Rattle.far_map.specs.Causes.{IsWhyPut, IsWhyRead, is_entry};
 ghost use Rattle.far_map.specs.Finding.{AreEntries};
 
 use crate::buffer::Buffer;
-use crate::entry::{fits, join_entry, value_to};
+use crate::entry::{fits, join_entry, value_of, value_to};
 use crate::grow::make_roomy;
 use crate::lookup::find;
 use crate::near::Near;
@@ -109,6 +110,30 @@ impl<O: Objects + Drop> Map<O> {
             return Err(Refused::Memory);
         };
         Ok(true)
+    }
+
+    /// Calls `look` at a key's value, where it lies near: nothing is copied. What it answers; none if the key isn't there.
+    ///
+    /// Refused as the worker's reads are; then `look` wasn't called.
+    pub fn get_with<T, F: FnOnce(&[u8]) -> T>(
+        &mut self,
+        key: &[u8],
+        look: F,
+    ) -> Result<Option<T>, Refused>
+        requires { F.IsAlwaysCallable look }
+        ensures same { self.new ≡ self.old }
+        ensures got { self.old.honest ≡ true → IfOk result (λ r. MatchOption (map.get self.old.entries key.now) (r ≡ None) (λ value. (x : _) × (r ≡ Some x) × FnOnceReturnsAt F.FnOnce look value x)) }
+        ensures why { IfErr result (O.unreached self.old.honest) }
+    {
+        let tag = tag_of_key(&self.parts.near.seed, key);
+        let found = match find(&mut self.parts, tag, key) {
+            Ok(found) => found,
+            Err(why) => return Err(why),
+        };
+        let Some(at) = found else {
+            return Ok(None);
+        };
+        Ok(Some(look(value_of(self.parts.buffer.part(at.len)))))
     }
 
     /// Gives a key a value. Whether the key is new.

@@ -4,6 +4,7 @@ ghost use Rattle.std.specs.Prelude.{◌≡◌, ◌≢◌, ℕ, ◌+◌, ◌<◌,
 ghost use Rattle.std.specs.FinMap as map;
 ghost use Rattle.far_objects.specs.Far.{Drops, is_length};
 ghost use Rattle.far_index.specs.Slots.{slot_at};
+ghost use Rattle.far_index.specs.Slots.{IsTag};
 ghost use Rattle.far_index.specs.Tags.{tag_of};
 ghost use Rattle.far_map.specs.Entries.{encoded, key_in};
 ghost use Rattle.far_map.specs.Finding.{Stands};
@@ -27,12 +28,12 @@ fn let_go<O: Objects + Drop>(worker: &mut O, number: u32)
 /// A new entry, whose key is in no slot.
 pub fn add<O: Objects + Drop>(
     parts: &mut Parts<O>,
-    tag: u32,
+    tag: u64,
     bytes: &[u8],
     key: &[u8],
     value: &[u8],
 ) -> Result<(), Refused>
-    requires some { 0 < tag }
+    requires some { IsTag tag }
     requires tag { tag ≡ tag_of parts.old.near.seed key.now }
     requires bytes { bytes.now ≡ encoded key.now value.now }
     requires fits { is_length (length bytes.now) ≡ true }
@@ -74,12 +75,12 @@ fn used_after(used: usize, was_left: bool) -> usize {
 pub fn replace<O: Objects + Drop>(
     parts: &mut Parts<O>,
     at: Found,
-    tag: u32,
+    tag: u64,
     bytes: &[u8],
     key: &[u8],
     value: &[u8],
 ) -> Result<(), Refused>
-    requires some { 0 < tag }
+    requires some { IsTag tag }
     requires tag { tag ≡ tag_of parts.old.near.seed key.now }
     requires bytes { bytes.now ≡ encoded key.now value.now }
     requires fits { is_length (length bytes.now) ≡ true }
@@ -102,7 +103,7 @@ pub fn replace<O: Objects + Drop>(
 }
 
 /// Takes the entry at a place out.
-pub fn take_out<O: Objects + Drop>(parts: &mut Parts<O>, at: Found, tag: u32, key: &[u8])
+pub fn take_out<O: Objects + Drop>(parts: &mut Parts<O>, at: Found, tag: u64, key: &[u8])
     requires sound { Sound (plain (O.far parts.old.worker) parts.old.near) }
     requires stands { Stands tag parts.old.near.slots at }
     requires has { (O.far parts.old.worker).honest ≡ true → key_in ((O.far parts.old.worker).bytes at.number) ≡ Some key.now }

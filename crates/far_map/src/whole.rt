@@ -19,11 +19,11 @@ use far_word::Refused;
 pub struct Statistics {
     /// How many entries it has.
     pub entries: usize,
-    /// How many homes the index has: it is made anew, mostly twice as large, where three quarters are taken.
+    /// How many homes the index has: it is made anew, mostly twice as large, where seven eighths are taken.
     pub homes: usize,
     /// How many slots have an entry or had one since the index was made.
     pub taken: usize,
-    /// The index's bytes: 8 a slot.
+    /// The index's bytes: 10 a slot.
     pub bytes: usize,
 }
 
@@ -86,7 +86,7 @@ impl<O: Objects + Drop> Map<O> {
             entries: self.parts.near.count,
             homes: self.parts.near.buckets,
             taken: self.parts.near.used,
-            bytes: self.parts.near.slots.len().saturating_mul(8),
+            bytes: self.parts.near.slots.len().saturating_mul(10),
         }
     }
 

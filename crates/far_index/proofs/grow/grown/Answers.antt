@@ -1,5 +1,4 @@
-use Rattle.std.proofs.Common.{◌≡◌, ℕ, ◌+◌, sym, ◌∙◌}
-use Rattle.far_index.specs.Grown.{Grown}
+use Rattle.std.proofs.Common.{sym, ◌∙◌}
 use Rattle.far_index.proofs.Growth.{grown_skip, grown_more}
 use Rattle.far_index.proofs.grow.grown.Goals as goal
 use Rattle.far_index.proofs.grow.grown.Goals.{in-Full+in-Ok-move_in, in_default}

@@ -1,0 +1,5 @@
+//! A map over far objects in memory.
+
+mod cases;
+mod page;
+mod rows;
