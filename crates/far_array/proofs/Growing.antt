@@ -9,7 +9,7 @@ use Rattle.far_array.specs.Rows.{row, bytes_of}
 use Rattle.far_array.specs.Places.{Kept, MakesBlock, Placed, Wrote}
 use Rattle.far_array.proofs.Written.{place_low}
 
-none_size : (n : ℕ) (o : Option ℕ) → o ≡ None → o ≡ Some n → ⊥
+pub none_size : (n : ℕ) (o : Option ℕ) → o ≡ None → o ≡ Some n → ⊥
 none_size n o e f = cc
 
 pub then_others : (h : ℕ) (a b c : Far) → Others h a b → Others h b c → Others h a c
@@ -26,11 +26,12 @@ none_more f g h was is others k = elim (cases_eq k h) [
   | inr ne ↦ others.sizes k ne
 ]
 
--- the objects of an array stay where a number that it hasn't is made, and where it is dropped again
-module _ (f g : Far) (hs : List ℕ) (per size h : ℕ) (placed : Placed f hs per size) (fresh : f.sizes h ≡ None) (others : Others h f g) where
-  other : (j : ℕ) → j < length hs → slice_index hs j ≢ h
-  other j l e = none_size (per * size) (f.sizes h) fresh (ap f.sizes (sym e) ∙ placed.held j l)
+-- an array has no number that there isn't
+pub not_there : (f : Far) (hs : List ℕ) (per size h : ℕ) → Placed f hs per size → f.sizes h ≡ None → (j : ℕ) → j < length hs → slice_index hs j ≢ h
+not_there f hs per size h placed fresh j l e = none_size (per * size) (f.sizes h) fresh (ap f.sizes (sym e) ∙ placed.held j l)
 
+-- the objects of an array stay where a number that it hasn't is made, and where one is dropped
+module _ (f g : Far) (hs : List ℕ) (per size h : ℕ) (placed : Placed f hs per size) (other : (j : ℕ) → j < length hs → slice_index hs j ≢ h) (others : Others h f g) where
   kept_placed : Placed g hs per size
   kept_placed = record {
     sized = placed.sized;
@@ -79,6 +80,9 @@ module _ (f g : Far) (hs : List ℕ) (per size h : ℕ) (placed : Placed f hs pe
   more_row k l = ap (λ x. take size (drop ((k % per) * size) (bytes_of (g.bytes x)))) (low_handle (k / per) (place_low k per (length hs) placed.some l)) ∙ kept_row k l
 
 module _ (f g : Far) (hs : List ℕ) (per size h : ℕ) (bytes : List ℕ) (placed : Placed f hs per size) (long : length bytes ≡ size) (made : MakesBlock h (per * size) bytes f g) where
+  away : (j : ℕ) → j < length hs → slice_index hs j ≢ h
+  away = not_there f hs per size h placed made.makes.fresh
+
   size_of_it : g.sizes h ≡ Some (per * size)
   size_of_it = made.makes.size ∙ ap (λ n. Some n) made.long
 
@@ -86,7 +90,7 @@ module _ (f g : Far) (hs : List ℕ) (per size h : ℕ) (bytes : List ℕ) (plac
   first o =
       ap (λ j. take size (drop (((per * length hs) % per) * size) (bytes_of (g.bytes (slice_index (hs ++ h ∷ []) j))))) (mul-div_cancel_left (length hs) {n = per} placed.some)
       ∙ ap (λ j. take size (drop (j * size) (bytes_of (g.bytes (slice_index (hs ++ h ∷ []) (length hs)))))) (mul-mod_right per (length hs))
-      ∙ ap (λ x. take size (drop (0 * size) (bytes_of (g.bytes x)))) (last_handle f g hs per size h placed made.makes.fresh made.makes.others (length hs) refl)
+      ∙ ap (λ x. take size (drop (0 * size) (bytes_of (g.bytes x)))) (last_handle f g hs per size h placed away made.makes.others (length hs) refl)
       ∙ ap (λ b. take size (drop (0 * size) (bytes_of b))) (made.makes.bytes o)
       ∙ front size
     where
@@ -99,9 +103,9 @@ module _ (f g : Far) (hs : List ℕ) (per size h : ℕ) (bytes : List ℕ) (plac
   pub wrote_block : Wrote (per * length hs) bytes f g hs (hs ++ h ∷ []) per size
   wrote_block = record {
     honest = made.makes.others.honest;
-    placed = more_placed f g hs per size h placed made.makes.fresh made.makes.others size_of_it;
+    placed = more_placed f g hs per size h placed away made.makes.others size_of_it;
     itself = first;
-    others = λ o k ne l. more_row f g hs per size h placed made.makes.fresh made.makes.others k l;
+    others = λ o k ne l. more_row f g hs per size h placed away made.makes.others k l;
   }
 
 -- ---- fewer

@@ -4,4 +4,7 @@ pub mod Written
 pub mod Growing
 pub mod Lists
 pub mod Sizes
+pub mod Swapped
 pub mod Told
+pub mod Decoded
+pub mod Folded

@@ -6,7 +6,7 @@ use Rattle.far_word.specs.declared.refused.Refused.{Refused}
 use Rattle.far_word.specs.declared.refused.Refused.TheVariants.{Length, Memory, NotHeld, Range}
 use Rattle.far_objects.specs.Far.{IsWhyUnmade, IsWhyUnreached, barred, is_length}
 use Rattle.far_objects.specs.declared.objects.TheConstants.{MOST}
-use Rattle.far_array.specs.Reasons.{IsWhyMissed, IsWhyUnplaced}
+use Rattle.far_array.specs.Reasons.{IsWhyMissed, IsWhyNotMade, IsWhyUnplaced}
 
 pub on_ok : {A E : Type 0} → (r : Result A E) (P Q : Type 0) → (P → Q) → OnOk r P → OnOk r Q
 on_ok (Ok x) P Q f p = f p
@@ -38,6 +38,10 @@ pub unplaced : (unmade : Refused → Type 0) (n : ℕ) (why : Refused) → is_le
 unplaced unmade n Memory e w = tt
 unplaced unmade n Length e w = true_false (is_length n) e w
 unplaced unmade n why e w = w.1
+
+pub not_made : (unmade : Refused → Type 0) (n : ℕ) (why : Refused) → is_length n ≡ true → IsWhyUnmade unmade n why → IsWhyNotMade unmade why
+not_made unmade n Length e w = true_false (is_length n) e w
+not_made unmade n why e w = w.1
 
 pub is_long : (n : ℕ) → 0 < n → n ≤ MOST → is_length n ≡ true
 is_long n some fits = grind (arith, nat_tests)

@@ -1,8 +1,9 @@
 -- How many records and blocks there are.
-use Rattle.std.proofs.Common.{◌≡◌, ℕ, ◌+◌, ◌*◌, ◌^◌, ◌<◌, ◌≤◌, min, List, length, take, sym, ◌∙◌, ap, subst, inl, inr, arith}
+use Rattle.std.proofs.Common.{◌≡◌, ℕ, ◌+◌, ◌-◌, ◌*◌, ◌/◌, ◌%◌, ◌^◌, ◌<◌, ◌≤◌, min, List, length, take, sym, ◌∙◌, ap, subst, inl, inr, arith}
 use Rattle.std.proofs.lemmas.Bool.{cases_lt}
 use Rattle.std.proofs.lemmas.List.{length-take}
-use Rattle.std.proofs.Math.Nat.{mul-le-mul_left, mul-le-mul_right, mul-add}
+use Rattle.std.proofs.lemmas.Nat.{le-div}
+use Rattle.std.proofs.Math.Nat.{mul-le-mul_left, mul-le-mul_right, mul-add, div-mul-le_self, mod-lt}
 use Rattle.far_objects.specs.Far.{Far}
 use Rattle.far_objects.specs.declared.objects.TheConstants.{MOST}
 use Rattle.far_array.specs.declared.parts.TheConstants.{MOST_BLOCKS}
@@ -11,6 +12,14 @@ use Rattle.far_array.specs.Places.{Kept, Placed, Sound, Wrote}
 per_low : (f : Far) (hs : List ℕ) (per size : ℕ) → Placed f hs per size → per ≤ MOST
 per_low f hs per size placed =
     let m : per * 1 ≤ per * size = mul-le-mul_left {m = 1} {n = size} per (omega (arith, placed.sized)) in omega (arith, m, placed.fits)
+
+pub size_low : (f : Far) (hs : List ℕ) (per size : ℕ) → Placed f hs per size → size ≤ MOST
+size_low f hs per size placed =
+    let m : 1 * size ≤ per * size = mul-le-mul_right {m = 1} {n = per} size (omega (arith, placed.some)) in omega (arith, m, placed.fits)
+
+pub block_some : (f : Far) (hs : List ℕ) (per size : ℕ) → Placed f hs per size → 0 < per * size
+block_some f hs per size placed =
+    let m : 1 * size ≤ per * size = mul-le-mul_right {m = 1} {n = per} size (omega (arith, placed.some)) in omega (arith, m, placed.sized)
 
 -- no number of records is too large to be told
 pub all_fit : (f : Far) (hs : List ℕ) (per size : ℕ) → Placed f hs per size → length hs ≤ MOST_BLOCKS → per * length hs < 2 ^ 63
@@ -57,3 +66,12 @@ module _ (f g : Far) (hs gs : List ℕ) (per size len n m spare : ℕ) (sound : 
 
   pub cut_sound : Sound g gs per size n
   cut_sound = record { placed = kept.placed; room = has; few = omega (arith, tight, spare_low); count = omega (arith, less, sound.count) }
+
+-- how many records are read at once
+pub many_low : (m size len i per n : ℕ) → 0 < size → 0 < per → i < len → size ≤ m → n ≡ min (min (m / size) (len - i)) (per - i % per) → (0 < n) × (i + n ≤ len) × (i % per + n ≤ per) × (n * size ≤ m)
+many_low m size len i per n some places low fits e =
+    let one : 1 ≤ m / size = le-div 1 m size some (omega arith) in
+    let rest : i % per < per = mod-lt i (omega arith) in
+    let least : n ≤ m / size = omega (arith, e) in
+    let times : n * size ≤ (m / size) * size = mul-le-mul_right size least in
+    (omega (arith, e, one, rest, low), omega (arith, e, low), omega (arith, e, rest), omega (arith, times, div-mul-le_self m size))

@@ -1,6 +1,6 @@
 -- The objects of an array.
-use Rattle.std.specs.Prelude.{◌≡◌, ◌≢◌, ℕ, ◌+◌, ◌*◌, ◌<◌, ◌≤◌, true, Some, List, length, take, slice_index}
-use Rattle.far_objects.specs.Far.{Far, Makes}
+use Rattle.std.specs.Prelude.{◌≡◌, ◌≢◌, ℕ, ◌+◌, ◌*◌, ◌/◌, ◌<◌, ◌≤◌, true, Some, None, List, length, take, slice_index, slice_set}
+use Rattle.far_objects.specs.Far.{Far, Makes, Others, with_range}
 use Rattle.far_objects.specs.declared.objects.TheConstants.{MOST}
 use Rattle.far_array.specs.Rows.{row, per_block}
 use Rattle.far_array.specs.declared.parts.TheConstants.{MOST_BLOCKS}
@@ -40,3 +40,22 @@ pub record MakesBlock (h n : ℕ) (bytes : List ℕ) (old new : Far) : Type 0 wh
   pub makes : Makes h all old new
   pub long : length all ≡ n
   pub begins : take (length bytes) all ≡ bytes
+
+-- these bytes are an object's, n in all, but for those from here on
+abbrev pub IsPieced : Far → ℕ → ℕ → List ℕ → List ℕ → ℕ → Type 0
+IsPieced far number from bytes all n = (was : List ℕ) × (far.bytes number ≡ Some was) × (length was ≡ n) × (all ≡ with_range was from bytes)
+
+-- a block was made anew, of these bytes
+pub record IsMadeAnew (block : ℕ) (bytes : List ℕ) (old new : Far) (blocks later : List ℕ) : Type 0 where
+  pub number : ℕ
+  pub makes : Makes number bytes old new
+  pub later_is : later ≡ slice_set blocks block number
+
+-- record i's block was made anew, with other bytes for the record; the old one, of this number, stays
+pub record Remade (i was : ℕ) (bytes : List ℕ) (old new : Far) (blocks later : List ℕ) (per size : ℕ) : Type 0 where
+  pub number : ℕ
+  pub named : was ≡ slice_index blocks (i / per)
+  pub later_is : later ≡ slice_set blocks (i / per) number
+  pub fresh : old.sizes number ≡ None
+  pub others : Others number old new
+  pub wrote : Wrote i bytes old new blocks later per size

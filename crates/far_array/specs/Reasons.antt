@@ -1,5 +1,5 @@
 -- Why a call is refused.
-use Rattle.std.specs.Prelude.{◌≡◌, ℕ, nat_lt, ◌==◌, Bool, true, false, Option, Some, None, length, if◌then◌else◌}
+use Rattle.std.specs.Prelude.{◌≡◌, ◌⊎◌, ℕ, nat_lt, ◌==◌, ◌&&◌, Bool, true, false, Option, Some, None, length, if◌then◌else◌}
 use Rattle.far_word.specs.declared.refused.Refused.{Refused}
 use Rattle.far_word.specs.declared.refused.Refused.TheVariants.{Length, Memory, NotHeld, Range}
 use Rattle.far_objects.specs.Far.{is_length}
@@ -17,6 +17,14 @@ wrong_size size = if is_length size then None else Some Length
 abbrev pub barred_at : Rows → ℕ → ℕ → Option Refused
 barred_at rows i n = if nat_lt i (length rows.items) then wrong_length rows.size n else Some Range
 
+-- an access of records from record i on, into so many bytes
+abbrev pub barred_many : Rows → ℕ → ℕ → Option Refused
+barred_many rows i n = if nat_lt i (length rows.items) then (if nat_lt n rows.size then Some Length else None) else Some Range
+
+-- records i and j
+abbrev pub barred_two : Rows → ℕ → ℕ → Option Refused
+barred_two rows i j = if nat_lt i (length rows.items) && nat_lt j (length rows.items) then None else Some Range
+
 -- what bars a call is why; where nothing does, the far side says why
 abbrev pub IsWhy : Option Refused → (Refused → Type 0) → Refused → Type 0
 IsWhy (Some bar) far why = why ≡ bar
@@ -33,6 +41,15 @@ abbrev pub IsWhyUnplaced : (Refused → Type 0) → Refused → Type 0
 IsWhyUnplaced unmade Memory = Unit {0}
 IsWhyUnplaced unmade Length = ⊥
 IsWhyUnplaced unmade why = unmade why
+
+-- an object of the right length wasn't made
+abbrev pub IsWhyNotMade : (Refused → Type 0) → Refused → Type 0
+IsWhyNotMade unmade Length = ⊥
+IsWhyNotMade unmade why = unmade why
+
+-- two records didn't change places: an object wasn't reached, or the new block wasn't made
+abbrev pub IsWhyUnswapped : (Refused → Type 0) → (Refused → Type 0) → Refused → Type 0
+IsWhyUnswapped unreached unmade why = IsWhyMissed unreached why ⊎ IsWhyNotMade unmade why
 
 -- no record was put: into a block, or into a new one
 abbrev pub IsWhyUnput : Bool → (Refused → Type 0) → (Refused → Type 0) → Refused → Type 0

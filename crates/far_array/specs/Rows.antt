@@ -1,5 +1,5 @@
 -- Records of one size in far objects.
-use Rattle.std.specs.Prelude.{ℕ, ◌*◌, ◌/◌, ◌%◌, Bool, nat_lt, Option, Some, None, List, [], length, map, take, drop, slice_index}
+use Rattle.std.specs.Prelude.{ℕ, ◌-◌, min, ◌*◌, ◌/◌, ◌%◌, Bool, nat_lt, Option, Some, None, List, [], length, map, take, drop, slice_index}
 use Rattle.std.specs.List.{range_with_len}
 use Rattle.far_objects.specs.Far.{Far}
 use Rattle.far_objects.specs.declared.objects.TheConstants.{MOST}
@@ -18,6 +18,10 @@ per_block size = MOST / size
 -- whether one record more fits into the blocks
 abbrev pub has_room : Rows → Bool
 has_room rows = nat_lt (length rows.items) (per_block rows.size * rows.blocks)
+
+-- how many records are read at once, from record i on, into so many bytes
+abbrev pub many_at : Rows → ℕ → ℕ → ℕ
+many_at rows i n = min (min (n / rows.size) (length rows.items - i)) (per_block rows.size - i % per_block rows.size)
 
 -- ---- the records of the objects
 abbrev pub bytes_of : Option (List ℕ) → List ℕ

@@ -1,12 +1,15 @@
 //! The array.
 
-ghost use Rattle.std.specs.Prelude.{◌≡◌, ◌<◌, ◌≤◌, ◌*◌, ◌-◌, ◌+◌, ◌++◌, ◌∷◌, true, Some, None, IfOk, IfErr, OnOk, OnErr, [], length, slice_set, slice_index_or, take, ◌==◌, if◌then◌else◌};
-ghost use Rattle.far_array.specs.Reasons.{IsWhy, IsWhyMissed, IsWhyUnput, barred_at, wrong_length, wrong_size};
-ghost use Rattle.far_array.specs.Rows.{has_room, per_block};
+ghost use Rattle.std.specs.Prelude.{◌≡◌, ◌<◌, ◌≤◌, ◌*◌, ◌-◌, ◌+◌, ◌++◌, ◌∷◌, true, Some, None, IfOk, IfErr, OnOk, OnErr, [], length, slice_set, slice_index_or, take, drop, ℕ, ◌==◌, if◌then◌else◌};
+ghost use Rattle.far_objects.specs.declared.objects.TheConstants.{MOST as MOST_BYTES};
+ghost use Rattle.std.specs.List.{swap};
+ghost use Rattle.far_array.specs.Reasons.{IsWhy, IsWhyMissed, IsWhyUnput, IsWhyUnswapped, barred_at, barred_many, barred_two, wrong_length, wrong_size};
+ghost use Rattle.far_array.specs.Rows.{has_room, many_at, per_block};
 
 use crate::parts::Parts;
-use crate::rows::{read_row, write_row};
+use crate::rows::{many_rows, read_front, read_row, write_row};
 use crate::steps::{cut, put_row};
+use crate::swap::swap_rows;
 use far_objects::{MOST, Objects};
 use far_word::Refused;
 use std::alloc::Global;
@@ -66,9 +69,11 @@ impl<O: Objects + Drop> Array<O> {
         self.parts.len == 0
     }
 
-    /// How many bytes a record has.
+    /// How many bytes a record has: 1 to 4,088.
     pub fn size(&self) -> usize
-        ensures { result ≡ self.now.size }
+        ensures size { result ≡ self.now.size }
+        ensures some { 0 < self.now.size }
+        ensures fits { self.now.size ≤ MOST_BYTES }
     {
         self.parts.size
     }
@@ -101,6 +106,31 @@ impl<O: Objects + Drop> Array<O> {
         read_row(&mut self.parts, i, out)
     }
 
+    /// Writes records to `out`, from record i on, in one read: as many as it has room for, none past the end of their block. How many.
+    ///
+    /// Refused, in this order: [`Refused::Range`] exactly where there is no record i; [`Refused::Length`] where `out` has no room for one;
+    /// then as the worker says of an object that it didn't reach.
+    pub fn get_many(&mut self, i: usize, out: &mut [u8]) -> Result<usize, Refused>
+        ensures same { self.new ≡ self.old }
+        ensures many { IfOk result (λ n. n ≡ many_at self.old i (length out.old)) }
+        ensures got { self.old.honest ≡ true → IfOk result (λ n. (k : ℕ) → k < n → take self.old.size (drop (k * self.old.size) out.new) ≡ slice_index_or self.old.items (i + k) []) }
+        ensures done { OnOk result (barred_many self.old i (length out.old) ≡ None) }
+        ensures why { IfErr result (IsWhy (barred_many self.old i (length out.old)) (IsWhyMissed (O.unreached self.old.honest))) }
+    {
+        if i >= self.parts.len {
+            return Err(Refused::Range);
+        }
+        if out.len() < self.parts.size {
+            return Err(Refused::Length);
+        }
+        let n = many_rows(&self.parts, i, out.len());
+        match read_front(&mut self.parts, i, n, out) {
+            Ok(()) => {}
+            Err(why) => return Err(why),
+        }
+        Ok(n)
+    }
+
     /// Gives record i other bytes. Refused as [`Array::get`] is; then all records are as they were.
     pub fn set(&mut self, i: usize, bytes: &[u8]) -> Result<(), Refused>
         ensures honest { self.new.honest ≡ self.old.honest }
@@ -119,6 +149,31 @@ impl<O: Objects + Drop> Array<O> {
             return Err(Refused::Length);
         }
         write_row(&mut self.parts, i, bytes)
+    }
+
+    /// Records i and j change places.
+    ///
+    /// Record i's block is made anew, as a new object, and the old one is let go: so nothing is done by halves.
+    ///
+    /// Refused, in this order: [`Refused::Range`] exactly where there is no record i or no record j; then as the worker says of an object
+    /// that it didn't reach, or of one that it didn't make. Then all records are as they were.
+    pub fn swap(&mut self, i: usize, j: usize) -> Result<(), Refused>
+        ensures honest { self.new.honest ≡ self.old.honest }
+        ensures size { self.new.size ≡ self.old.size }
+        ensures blocks { self.new.blocks ≡ self.old.blocks }
+        ensures len { length self.new.items ≡ length self.old.items }
+        ensures made { self.old.honest ≡ true → OnOk result (self.new.items ≡ swap self.old.items i j) }
+        ensures refused { OnErr result (self.new ≡ self.old) }
+        ensures done { OnOk result (barred_two self.old i j ≡ None) }
+        ensures why { IfErr result (IsWhy (barred_two self.old i j) (IsWhyUnswapped (O.unreached self.old.honest) O.unmade)) }
+    {
+        if i >= self.parts.len {
+            return Err(Refused::Range);
+        }
+        if j >= self.parts.len {
+            return Err(Refused::Range);
+        }
+        swap_rows(&mut self.parts, i, j)
     }
 
     /// One record more, the last one.

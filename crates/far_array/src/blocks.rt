@@ -34,7 +34,7 @@ fn make_block<O: Objects>(worker: &mut O, n: usize, bytes: &[u8]) -> Result<u32,
 }
 
 /// Lets an object go.
-fn let_go<O: Objects>(worker: &mut O, number: u32)
+pub fn let_go<O: Objects>(worker: &mut O, number: u32)
     ensures others { Others number (O.far worker.old) (O.far worker.new) }
     ensures gone { (O.far worker.new).sizes number ≡ None }
 {

@@ -1,6 +1,6 @@
 use Rattle.std.proofs.Common.{◌*◌, length, sym, subst}
 use Rattle.far_array.specs.Places.{Kept, Wrote}
-use Rattle.far_array.proofs.Growing.{kept, then_others, wrote_block}
+use Rattle.far_array.proofs.Growing.{kept, not_there, then_others, wrote_block}
 use Rattle.far_array.proofs.blocks.push_block.Goals as goal
 
 pub returns-clause-wrote : goal.returns-clause-wrote
@@ -22,4 +22,4 @@ returns-in_default-clause-kept g c =
     let h = g.O.Objects.far c.let_go.new.worker in
     let made = c.in-Ok.ensures.made in
     subst (λ xs. Kept f h p.blocks.items xs p.per p.size) (sym c.in_default.ensures.items)
-    (kept f h p.blocks.items p.per p.size c.in-Ok.number c.requires.placed made.makes.fresh (then_others c.in-Ok.number f m h made.makes.others c.let_go.ensures.others))
+    (kept f h p.blocks.items p.per p.size c.in-Ok.number c.requires.placed (not_there f p.blocks.items p.per p.size c.in-Ok.number c.requires.placed made.makes.fresh) (then_others c.in-Ok.number f m h made.makes.others c.let_go.ensures.others))

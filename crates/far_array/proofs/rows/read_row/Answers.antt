@@ -1,29 +1,15 @@
-use Rattle.std.proofs.Common.{◌≡◌, ◌/◌, ◌%◌, ◌*◌, length, refl}
-use Rattle.std.specs.Prelude.{slice_index}
-use Rattle.std.proofs.lemmas.List.{get_or_read}
-use Rattle.far_objects.specs.Far.{barred}
+use Rattle.std.proofs.Common.{◌≡◌, ◌∙◌, length, sym, arith}
+use Rattle.std.proofs.lemmas.List.{take_all}
 use Rattle.far_array.specs.Rows.{row}
-use Rattle.far_array.proofs.Reached.{on_ok, if_err, missed}
-use Rattle.far_array.proofs.Written.{place_low, read, unbarred}
+use Rattle.far_array.proofs.Reached.{on_ok}
+use Rattle.far_array.proofs.Written.{first_row}
 use Rattle.far_array.proofs.rows.read_row.Goals as goal
 
 pub returns-clause-read : goal.returns-clause-read
 returns-clause-read g c = λ o.
     let p = c.args.parts.now in
-    let i = c.args.i in
     let f = g.O.Objects.far p.worker in
-    let low = place_low i p.per (length p.blocks.items) c.requires.placed.some c.requires.within in
-    let named : c.index-number.result.now ≡ slice_index p.blocks.items (i / p.per) = get_or_read p.blocks.items (i / p.per) c.index-number.result.now low c.index-number.ensures 0 in
-    on_ok c.read.result _ (c.read.new.out ≡ row f p.blocks.items p.per p.size i)
-    (read f p.blocks.items p.per p.size i c.requires.placed c.requires.within c.index-number.result.now ((i % p.per) * p.size) (length c.args.out.now) c.read.new.out (g.met.O.Objects.known p.worker) named refl c.requires.long o)
-    c.read.ensures.read
-
-pub returns-clause-why : goal.returns-clause-why
-returns-clause-why g c =
-    let p = c.args.parts.now in
-    let i = c.args.i in
-    let f = g.O.Objects.far p.worker in
-    let low = place_low i p.per (length p.blocks.items) c.requires.placed.some c.requires.within in
-    let named : c.index-number.result.now ≡ slice_index p.blocks.items (i / p.per) = get_or_read p.blocks.items (i / p.per) c.index-number.result.now low c.index-number.ensures 0 in
-    let free = unbarred f p.blocks.items p.per p.size i c.requires.placed c.requires.within c.index-number.result.now ((i % p.per) * p.size) (length c.args.out.now) named refl c.requires.long in
-    if_err c.read.result _ _ (λ why w. missed g.O.Objects.unreached f.honest (barred (f.sizes c.index-number.result.now) ((i % p.per) * p.size) (length c.args.out.now)) why free w) c.read.ensures.why
+    let out = c.read_rows.new.out in
+    let long : length out ≡ p.size = c.read_rows.ensures.long ∙ c.requires.long in
+    on_ok c.read_rows.result _ (out ≡ row f p.blocks.items p.per p.size c.args.i)
+    (λ each. sym (take_all p.size out (omega (arith, long))) ∙ first_row f p.blocks.items p.per p.size c.args.i out each) (c.read_rows.ensures.read o)
