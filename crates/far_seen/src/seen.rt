@@ -15,7 +15,7 @@ use far_word::Refused;
 use std::alloc::Global;
 use std::marker::Model;
 
-/// A set of lines of 1 to 4,088 bytes, which are the objects of its worker. Near it has a word of 8 bytes a slot.
+/// A set of lines of 1 to 4,088 bytes, which are the objects of its worker. Near it has 10 bytes a slot.
 #[derive(Drop)]
 pub struct Seen<O: Objects + Drop> {
     parts: Parts<O>,
@@ -37,11 +37,11 @@ impl<O: Objects + Drop> Model for Seen<O> {
 /// How many lines an index begins with room for.
 const LINES: usize = 48;
 
-/// So many homes that three quarters of them are these.
+/// So many homes that seven eighths of them are these.
 fn homes(lines: usize) -> usize
     ensures { 0 < result }
 {
-    lines.saturating_add(lines / 3).saturating_add(2)
+    lines.saturating_add(lines / 7).saturating_add(2)
 }
 
 impl<O: Objects + Drop> Seen<O> {
@@ -57,7 +57,7 @@ impl<O: Objects + Drop> Seen<O> {
         }
     }
 
-    /// The same, with an index that has room for so many lines before it is made anew, twice as large: 11 bytes a line.
+    /// The same, with an index that has room for so many lines before it is made anew, twice as large: 12 bytes a line.
     pub fn with_room(
         alloc: Global,
         worker: O,
@@ -98,7 +98,7 @@ impl<O: Objects + Drop> Seen<O> {
         self.parts.near.count
     }
 
-    /// Puts a line. Whether it is the first of its kind. A line that wasn't there costs no far read, unless another one has its tag of 32
+    /// Puts a line. Whether it is the first of its kind. A line that wasn't there costs no far read, unless another one has its tag of 48
     /// bits and its length.
     ///
     /// Refused: [`Refused::Length`] exactly where it hasn't 1 to 4,088 bytes; [`Refused::Memory`] where the index can't grow; or as the

@@ -4,12 +4,13 @@ ghost use Rattle.std.specs.Prelude.{◌≡◌, ◌<◌, ℕ, true, Some, IfOk, I
 ghost use Rattle.std.specs.Bool.{Decides};
 ghost use Rattle.std.specs.FinSet as set;
 ghost use Rattle.far_objects.specs.Far.{Far, is_length};
+ghost use Rattle.far_index.specs.Slots.{IsTag};
 ghost use Rattle.far_index.specs.Tags.{tag_of};
 ghost use Rattle.far_seen.specs.Parts.{Has, Sound, lines_of, plain};
 
 use crate::near::Near;
 use crate::parts::Parts;
-use far_index::{Slot, find_place, grown, home_of};
+use far_index::{Met, Slot, find_place, grown, home_of};
 use far_objects::Objects;
 use far_word::Refused;
 use std::alloc::Global;
@@ -61,7 +62,8 @@ fn holds<O: Objects + Drop>(
 }
 
 /// Whether a line is in the set. A slot with another tag, and an object of another length, cost no read.
-pub fn find<O: Objects + Drop>(parts: &mut Parts<O>, tag: u32, line: &[u8]) -> Result<bool, Refused>
+pub fn find<O: Objects + Drop>(parts: &mut Parts<O>, tag: u64, line: &[u8]) -> Result<bool, Refused>
+    requires some { IsTag tag }
     requires tag { tag ≡ tag_of parts.old.near.seed line.now }
     requires sound { Sound (plain (O.far parts.old.worker) parts.old.near) }
     ensures far { O.far parts.new.worker ≡ O.far parts.old.worker }
@@ -71,16 +73,14 @@ pub fn find<O: Objects + Drop>(parts: &mut Parts<O>, tag: u32, line: &[u8]) -> R
 {
     let home = home_of(parts.near.buckets, tag);
     for place in home..parts.near.slots.len() {
-        match parts.near.slots.at(place) {
-            Slot::Empty => return Ok(false),
-            Slot::Gone => {}
-            Slot::Full(its, number) => {
-                if its == tag {
-                    match holds(&mut parts.worker, &mut parts.buffer, number, line) {
-                        Ok(true) => return Ok(true),
-                        Ok(false) => {}
-                        Err(why) => return Err(why),
-                    }
+        match parts.near.slots.meet(place, tag) {
+            Met::End => return Ok(false),
+            Met::Other => {}
+            Met::Tag(number) => {
+                match holds(&mut parts.worker, &mut parts.buffer, number, line) {
+                    Ok(true) => return Ok(true),
+                    Ok(false) => {}
+                    Err(why) => return Err(why),
                 }
             }
         }
@@ -89,8 +89,8 @@ pub fn find<O: Objects + Drop>(parts: &mut Parts<O>, tag: u32, line: &[u8]) -> R
 }
 
 /// Puts a line that isn't in the set.
-pub fn add<O: Objects + Drop>(parts: &mut Parts<O>, tag: u32, line: &[u8]) -> Result<(), Refused>
-    requires some { 0 < tag }
+pub fn add<O: Objects + Drop>(parts: &mut Parts<O>, tag: u64, line: &[u8]) -> Result<(), Refused>
+    requires some { IsTag tag }
     requires tag { tag ≡ tag_of parts.old.near.seed line.now }
     requires fits { is_length (length line.now) ≡ true }
     requires sound { Sound (plain (O.far parts.old.worker) parts.old.near) }
@@ -124,13 +124,13 @@ fn twice(buckets: usize) -> usize
     buckets.saturating_mul(2)
 }
 
-/// Makes the index anew where three quarters of its homes are taken: twice as large. If there is no memory for it, the old one goes on.
+/// Makes the index anew where seven eighths of its homes are taken: twice as large. If there is no memory for it, the old one goes on.
 pub fn make_roomy(alloc: Global, near: &mut Near)
     ensures sound { (f : Far) → Sound (plain f near.old) → Sound (plain f near.new) }
     ensures same { (f : Far) → Sound (plain f near.old) → lines_of (plain f near.new) ≡ lines_of (plain f near.old) }
 {
     let buckets = near.buckets;
-    if buckets == 0 || near.count < buckets - buckets / 4 {
+    if buckets == 0 || near.count < buckets - buckets / 8 {
         return;
     }
     let more = twice(buckets);

@@ -1,0 +1,5 @@
+pub mod Lines
+pub mod Firsts
+pub mod Causes
+pub mod Doing
+pub mod Telling

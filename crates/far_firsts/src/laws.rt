@@ -1,0 +1,25 @@
+//! What the first lines of each kind are, in other words.
+
+ghost use Rattle.std.specs.Prelude.{◌≡◌, ◌++◌, ◌∷◌, [], ℕ, List, take};
+ghost use Rattle.far_firsts.specs.Lines.{ArePlain, closed, lines_of, text_of};
+ghost use Rattle.far_firsts.specs.Firsts.{firsts, is_among, unless_among, NoneTwice, IsPartOf};
+
+/// The lines of a text have no end in them; and they and their ends are the text, with an end after the last line if that has none.
+pub fn lines_are_between_ends()
+    ensures plain { (end : ℕ) (text : List ℕ) → ArePlain end (lines_of end text) }
+    ensures all { (end : ℕ) (text : List ℕ) → text_of end (lines_of end text) ≡ closed end text }
+{}
+
+/// No line stands twice in them; they have each line; they are the lines, in their order, with some left out; and a line that comes next is
+/// one of them exactly if it isn't among those that came.
+pub fn firsts_are_one_of_each()
+    ensures none_twice { (lines : List (List ℕ)) → NoneTwice (firsts lines) }
+    ensures each { (lines : List (List ℕ)) (line : List ℕ) → is_among line (firsts lines) ≡ is_among line lines }
+    ensures part { (lines : List (List ℕ)) → IsPartOf (firsts lines) lines }
+    ensures next { (lines : List (List ℕ)) (line : List ℕ) → firsts (lines ++ line ∷ []) ≡ firsts lines ++ unless_among lines line }
+{}
+
+/// What a run prints that ends early is how the right output begins.
+pub fn what_is_printed_is_a_prefix()
+    ensures { (end n : ℕ) (lines : List (List ℕ)) → (rest : List ℕ) × (text_of end (firsts lines) ≡ text_of end (firsts (take n lines)) ++ rest) }
+{}

@@ -1,0 +1,147 @@
+//! A whole input.
+
+ghost use Rattle.std.specs.Prelude.{◌≡◌, ◌<◌, [], IfOk, IfSome, length};
+ghost use Rattle.std.specs.FinSet as set;
+ghost use Rattle.far_firsts.specs.Lines.{IsPlain};
+ghost use Rattle.far_firsts.specs.Causes.{Refuses};
+ghost use Rattle.far_firsts.specs.Doing.{Finished, state};
+ghost use Rattle.far_firsts.specs.Telling.{Tells};
+
+use crate::end::{End, Why};
+use crate::line::take_end;
+use crate::midst::Midst;
+use crate::write::{let_out, read_some, work};
+use far_objects::Objects;
+use far_seen::Seen;
+use far_word::Refused;
+use std::alloc::{AllocError, Global};
+use std::io::{Read, Write};
+
+/// How many bytes are read at once. So many and 4,089 more are written at once.
+const READ: usize = 65_536;
+
+const ROOM: usize = 69_625;
+
+/// Prints each line of the input the first time it comes, and an end after each; what was read at once is written before more is read.
+///
+/// `end` ends a line; what follows the last one is a line too, if it has bytes, and gets an end. A line has at most 4,088 bytes: a longer
+/// one is refused [`Refused::Length`], and what came before is printed then. Over a far side that lies a line may be printed again, or not at
+/// all; whole lines of the input are printed, in its order, and nothing else.
+pub fn uniq<O: Objects + Drop, R: Read, W: Write>(
+    alloc: Global,
+    seen: &mut Seen<O>,
+    end: u8,
+    input: &mut R,
+    output: &mut W,
+) -> End
+    requires { seen.old.lines ≡ set.empty }
+    ensures { IfSome (R.remaining input.old) (λ text. Tells (Refuses O.unmade O.unreached seen.old.honest) seen.old.honest end result.lines result.why text (R.remaining input.new) (W.contents output.old) (W.contents output.new)) }
+{
+    let Ok(mut midst) = Midst::new(alloc, ROOM) else {
+        return no_room();
+    };
+    let Ok(mut room) = zeros(alloc, READ) else {
+        return no_room();
+    };
+    run(seen, end, input, output, room.as_mut_slice(), &mut midst)
+}
+
+fn no_room() -> End
+    ensures lines { result.lines ≡ 0 }
+    ensures why { result.why ≡ Why.Refused Refused.Memory }
+{
+    End {
+        lines: 0,
+        why: Why::Refused(Refused::Memory),
+    }
+}
+
+fn zeros(alloc: Global, len: usize) -> Result<Vec<u8>, AllocError>
+    requires { 0 < len }
+    ensures { IfOk result (λ v. 0 < length v.items) }
+{
+    let room = vec![in alloc; 0u8; len]?;
+    Ok(room)
+}
+
+fn run<O: Objects + Drop, R: Read, W: Write>(
+    seen: &mut Seen<O>,
+    end: u8,
+    input: &mut R,
+    output: &mut W,
+    room: &mut [u8],
+    midst: &mut Midst,
+) -> End
+    requires none { seen.old.lines ≡ set.empty }
+    requires part { midst.old.part.items ≡ [] }
+    requires out { midst.old.out.items ≡ [] }
+    requires count { midst.old.count ≡ 0 }
+    requires room { 0 < length room.old }
+    ensures { IfSome (R.remaining input.old) (λ text. Tells (Refuses O.unmade O.unreached seen.old.honest) seen.old.honest end result.lines result.why text (R.remaining input.new) (W.contents output.old) (W.contents output.new)) }
+{
+    'reads: for turn in 0..u64::MAX {
+        let count = match read_some(input, room) {
+            Ok(count) => count,
+            Err(e) => {
+                return End {
+                    lines: midst.count,
+                    why: Why::Input(e),
+                };
+            }
+        };
+        if count == 0 {
+            return finish(seen, end, midst, output);
+        }
+        match work(seen, end, &room[..count], midst, output) {
+            Ok(()) => {}
+            Err(why) => {
+                return End {
+                    lines: midst.count,
+                    why,
+                };
+            }
+        }
+    }
+    End {
+        lines: midst.count,
+        why: Why::TooMany,
+    }
+}
+
+/// The text has ended, and with it a line, if bytes of one came.
+fn finish<O: Objects + Drop, W: Write>(
+    seen: &mut Seen<O>,
+    end: u8,
+    midst: &mut Midst,
+    output: &mut W,
+) -> End
+    requires out { midst.old.out.items ≡ [] }
+    requires plain { IsPlain end midst.old.part.items }
+    ensures { Finished (Refuses O.unmade O.unreached seen.old.honest) seen.old.honest end (state seen.old.lines midst.old.part.items midst.old.count) result.lines result.why (W.contents output.old) (W.contents output.new) }
+{
+    if midst.part.is_empty() {
+        return End {
+            lines: midst.count,
+            why: Why::Done,
+        };
+    }
+    match take_end(seen, end, b"", midst) {
+        Ok(()) => {}
+        Err(why) => {
+            return End {
+                lines: midst.count,
+                why,
+            };
+        }
+    }
+    match let_out(output, &mut midst.out) {
+        Ok(()) => End {
+            lines: midst.count,
+            why: Why::Done,
+        },
+        Err(e) => End {
+            lines: midst.count,
+            why: Why::Output(e),
+        },
+    }
+}

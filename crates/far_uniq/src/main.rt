@@ -1,0 +1,59 @@
+//! Prints each line of its files, or of standard input, the first time it comes, at once and in order, in bounded memory.
+//!
+//!     far_uniq [-m SIZE] [-d FOLDER] [-c] [-s] [-z] [FILE..]
+#![tactic(auto)]
+
+mod asked;
+mod inputs;
+mod room;
+mod run;
+mod told;
+
+use crate::asked::{Asked, read_words};
+use crate::inputs::Inputs;
+use crate::room::{open_far, room_in};
+use crate::run::print_firsts;
+use crate::told::{Fault, ended, tell};
+use far_pool::FileDevices;
+use std::process::ExitCode;
+use std::random::RandomSource;
+
+fn main(rt: HostRuntime) -> ExitCode {
+    let words = match read_words(&rt) {
+        Ok(words) => words,
+        Err(fault) => return tell(&rt, &fault, None),
+    };
+    let mut input = Inputs::new(&rt, &words);
+    match print(&rt, &words, &mut input) {
+        Ok(()) => ExitCode::SUCCESS,
+        Err(fault) => tell(&rt, &fault, input.name()),
+    }
+}
+
+// Over a file. No contract can say what a file gives back, so its devices aren't called honest.
+fn print(rt: &HostRuntime, words: &Asked, input: &mut Inputs<'_>) -> Result<(), Fault> {
+    let room = room_in(words.near)?;
+    let mut seed = [0; 16];
+    rt.fill_bytes(&mut seed).map_err(|_| Fault::Random)?;
+    let file = open_far(rt, words, &seed)?;
+    let devices = FileDevices::new(rt.alloc(), file).map_err(Fault::Start)?;
+    let mut output = rt.stdout();
+    let printed = print_firsts(
+        rt.alloc(),
+        devices,
+        false,
+        &room,
+        seed,
+        words.end,
+        input,
+        &mut output,
+    )
+    .map_err(Fault::Start)?;
+    if words.counts || words.tells {
+        let _ = eprintln!(rt;
+            "far_uniq: {} lines came, {} were new",
+            printed.end.lines, printed.lines
+        );
+    }
+    ended(printed.end, printed.lines, room.lines)
+}

@@ -1,0 +1,80 @@
+//! What the memory is given to, and the far file.
+
+use crate::asked::Asked;
+use crate::told::Fault;
+use far_file::NewFile;
+use far_pool::{Layout, Plan};
+use std::fs::File;
+use std::{env, fs};
+
+/// Bytes beside objects, index and heaps: what is read and written at once, and the program itself.
+const BESIDE: u64 = 3_145_728;
+
+/// Bytes near that a line takes, wherever it lies: 24 of its heap, 12 of the index.
+const LINE: u64 = 36;
+
+/// How many objects a heap has at most.
+const HEAP: u64 = 2_048;
+
+/// The least memory: for one heap.
+const LEAST: u64 = BESIDE + 2 * HEAP * LINE;
+
+#[derive(Drop)]
+pub struct Room {
+    pub layout: Layout,
+    /// How many different lines there may be.
+    pub lines: usize,
+}
+
+/// Half of the memory is for lines that lie near, the other half for what each line takes.
+pub fn room_in(near: u64) -> Result<Room, Fault> {
+    if near < LEAST {
+        return Err(Fault::Small(LEAST));
+    }
+    let shared = (near - BESIDE) / 2;
+    let lines = shared / LINE / HEAP * HEAP;
+    let plan = Plan {
+        near: shared,
+        objects: lines,
+        typical: 64,
+    };
+    match plan.lay_out() {
+        Ok(layout) => Ok(Room {
+            layout,
+            lines: lines as usize,
+        }),
+        Err(_) => Err(Fault::Large),
+    }
+}
+
+/// A new file, which nobody else may read; its name is taken away at once.
+pub fn open_far(rt: &HostRuntime, words: &Asked, seed: &[u8; 16]) -> Result<File, Fault> {
+    let folder = match &words.folder {
+        Some(folder) => String::from_str(rt.alloc(), folder.as_str()).map_err(|_| Fault::Memory)?,
+        None => match env::var(rt, "TMPDIR") {
+            Ok(folder) => folder,
+            Err(_) => String::from_str(rt.alloc(), ".").map_err(|_| Fault::Memory)?,
+        },
+    };
+    let name = format!(in rt.alloc(); "{folder}/far_uniq.{:016x}", word(seed)).map_err(
+        |_| Fault::Memory,
+    )?;
+    match NewFile::new().open(rt, name.as_str()) {
+        Ok(file) => {
+            let _ = fs::remove_file(rt, name.as_str());
+            Ok(file)
+        }
+        Err(why) => Err(Fault::File(why)),
+    }
+}
+
+// A number that nobody can guess who doesn't know the seed, and that doesn't tell it.
+fn word(seed: &[u8; 16]) -> u64 {
+    let mut all = 0u64;
+    for byte in seed {
+        all = all
+            .wrapping_mul(1_099_511_628_211)
+            .wrapping_add(*byte as u64);
+    }
+    all
+}

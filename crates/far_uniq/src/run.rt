@@ -1,0 +1,55 @@
+//! A whole run.
+
+ghost use Rattle.std.specs.Prelude.{◌≡◌, true, IfOk, IfSome, OnErr};
+ghost use Rattle.far_private.specs.Heap.{IsOutside};
+ghost use Rattle.far_private.specs.Numbered.{IsNoPlace};
+ghost use Rattle.far_firsts.specs.Causes.{Refuses};
+ghost use Rattle.far_firsts.specs.Telling.{Tells};
+
+use crate::room::Room;
+use far_device::Device;
+use far_firsts::{End, uniq};
+use far_pool::{MakeDevice, Worker};
+use far_seen::Seen;
+use far_word::Refused;
+use std::alloc::Global;
+use std::io::{Read, Write};
+
+/// How a run ended, and how many lines are in its set.
+#[derive(Drop)]
+pub struct Printed {
+    pub end: End,
+    pub lines: usize,
+}
+
+/// Prints each line of the input the first time it comes. Far objects are kept by the devices that `devices` makes; `honest` may be true only
+/// where these are proved so.
+///
+/// Refused before the first line: there is no memory, or no device.
+pub fn print_firsts<D: Device + Drop, M: MakeDevice<D> + Drop, R: Read, W: Write>(
+    alloc: Global,
+    devices: M,
+    honest: bool,
+    room: &Room,
+    seed: [u8; 16],
+    end: u8,
+    input: &mut R,
+    output: &mut W,
+) -> Result<Printed, Refused>
+    requires { honest ≡ true → M.honest ≡ true }
+    ensures printed { IfOk result (λ p. IfSome (R.remaining input.old) (λ text. Tells (Refuses IsNoPlace IsOutside honest) honest end p.end.lines p.end.why text (R.remaining input.new) (W.contents output.old) (W.contents output.new))) }
+    ensures input { OnErr result (R.remaining input.new ≡ R.remaining input.old) }
+    ensures output { OnErr result (W.contents output.new ≡ W.contents output.old) }
+{
+    let worker = match Worker::new(alloc, devices, room.layout, honest) {
+        Ok(worker) => worker,
+        Err(why) => return Err(why),
+    };
+    let mut seen = match Seen::with_room(alloc, worker, seed, room.lines) {
+        Ok(seen) => seen,
+        Err(why) => return Err(why),
+    };
+    let end = uniq(alloc, &mut seen, end, input, output);
+    let lines = seen.len();
+    Ok(Printed { end, lines })
+}

@@ -1,0 +1,102 @@
+//! What is said at an end that isn't the right one.
+
+use far_firsts::{End, Why};
+use far_word::Refused;
+use std::io;
+use std::io::ErrorKind;
+use std::process::ExitCode;
+
+#[derive(Drop)]
+pub enum Fault {
+    Usage,
+    Memory,
+    Random,
+    /// So many bytes of memory would do.
+    Small(u64),
+    Large,
+    /// The far file.
+    File(io::Error),
+    /// Before the first line.
+    Start(Refused),
+    /// The line of this number, counted from 1, has more than 4,088 bytes; so many were printed.
+    Long(u64, usize),
+    /// There are no more than so many lines that may be printed.
+    Full(u64, usize),
+    /// The far side, or memory, at this line; so many were printed.
+    Line(u64, Refused, usize),
+    Input(u64, io::Error, usize),
+    Output(u64, io::Error),
+    /// Who reads the output is gone.
+    Closed,
+}
+
+/// What an end comes to.
+pub fn ended(end: End, printed: usize, lines: usize) -> Result<(), Fault> {
+    let at = end.lines.saturating_add(1);
+    match end.why {
+        Why::Done => Ok(()),
+        Why::Refused(Refused::Length) => Err(Fault::Long(at, printed)),
+        Why::Refused(Refused::NoPointer) => Err(Fault::Full(at, lines)),
+        Why::Refused(why) => Err(Fault::Line(at, why, printed)),
+        Why::Input(e) => Err(Fault::Input(at, e, printed)),
+        Why::Output(e) => {
+            if e.kind() == ErrorKind::BrokenPipe {
+                return Err(Fault::Closed);
+            }
+            Err(Fault::Output(at, e))
+        }
+        Why::TooMany => Err(Fault::Large),
+    }
+}
+
+// Why the far side or memory refused.
+fn cause(why: &Refused) -> &'static str {
+    match why {
+        Refused::Memory => "no memory",
+        Refused::NoRoom => "no room, as the far file takes nothing more: is its disk full?",
+        Refused::Device => "the far file can't be read",
+        Refused::Damaged => "the far file gave other bytes than were put there",
+        _ => "the far side refused",
+    }
+}
+
+/// Says what was wrong in a line. The program's status: 2 where the arguments are wrong, else 1.
+pub fn tell(rt: &HostRuntime, fault: &Fault, input: Option<&str>) -> ExitCode {
+    let file = input.unwrap_or("standard input");
+    let _ = match fault {
+        Fault::Usage => {
+            eprintln!(rt; "usage: far_uniq [-m SIZE] [-d FOLDER] [-c] [-s] [-z] [FILE..]")
+        }
+        Fault::Memory => eprintln!(rt; "far_uniq: no memory; nothing was printed"),
+        Fault::Random => {
+            eprintln!(rt; "far_uniq: the system gives no random bytes; nothing was printed")
+        }
+        Fault::Small(least) => eprintln!(rt;
+            "far_uniq: too little memory: -m {least} would do; nothing was printed"
+        ),
+        Fault::Large => eprintln!(rt; "far_uniq: too much for this program"),
+        Fault::File(e) => eprintln!(rt; "far_uniq: no far file: {e}; nothing was printed"),
+        Fault::Start(why) => eprintln!(rt; "far_uniq: {}; nothing was printed", cause(why)),
+        Fault::Long(at, printed) => eprintln!(rt;
+            "far_uniq: {file}: line {at} has more than 4088 bytes; {printed} lines were printed"
+        ),
+        Fault::Full(at, lines) => eprintln!(rt;
+            "far_uniq: {file}: line {at} would be new beyond {lines}, all that -m has room for; they were printed"
+        ),
+        Fault::Line(at, why, printed) => eprintln!(rt;
+            "far_uniq: {file}: line {at}: {}; {printed} lines were printed",
+            cause(why)
+        ),
+        Fault::Input(at, e, printed) => eprintln!(rt;
+            "far_uniq: {file}: can't be read at line {at}: {e}; {printed} lines were printed"
+        ),
+        Fault::Output(at, e) => eprintln!(rt;
+            "far_uniq: can't write at line {at}: {e}; what was written is how the right output begins"
+        ),
+        Fault::Closed => Ok(()),
+    };
+    match fault {
+        Fault::Usage => ExitCode::from(2),
+        _ => ExitCode::FAILURE,
+    }
+}

@@ -1,0 +1,5 @@
+//! Texts over far objects in memory, and what is printed of them.
+
+mod faults;
+mod streams;
+mod texts;

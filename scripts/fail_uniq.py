@@ -1,0 +1,237 @@
+#!/usr/bin/env python3
+"""Runs far_uniq beside a model of it: its options; where memory is too little, how much it takes; files that can't be read; an output and a far file whose disk is
+full; a reader that is gone; a line that comes alone; and each growth of memory refused in turn. A run that fails has printed how the right output begins, and says
+in one line what was wrong; a reader that is gone is told nothing. No run leaves a file.
+
+usage: fail_uniq.py PROGRAM
+Prints only what is wrong.
+"""
+import os
+import random
+import re
+import resource
+import select
+import signal
+import subprocess
+import sys
+import tempfile
+import threading
+import time
+
+HERE = os.path.dirname(os.path.abspath(__file__))
+LONGEST = 60
+USAGE = "usage: far_uniq [-m SIZE] [-d FOLDER] [-c] [-s] [-z] [FILE..]\n"
+TEXT = b"b\na\nb\n\nc\r\n\xff\na\n\nlast"
+BAD_WORDS = (["-x"], ["-m"], ["-m", ""], ["-m", "x"], ["-m", "K"], ["-m", "1K2"], ["-m", "-1"], ["-m", "99999999999999999999"], ["-d"], ["-z", "-q", "file"])
+# What a growth that was refused is told as.
+REFUSED = re.compile(r"far_uniq: (no memory; nothing was printed|standard input: line \d+: no memory; \d+ lines were printed|no far file: .*; nothing was printed)\n")
+wrong = []
+
+
+def firsts(text: bytes, end: bytes = b"\n") -> bytes:
+    """What is to be printed."""
+    lines = text.split(end)
+    if lines[-1] == b"":
+        lines.pop()
+    return b"".join(line + end for line in dict.fromkeys(lines))
+
+
+def limited(size: int):
+    """What a run begins with whose files may have so many bytes."""
+
+    def begun() -> None:
+        signal.signal(signal.SIGXFSZ, signal.SIG_IGN)
+        resource.setrlimit(resource.RLIMIT_FSIZE, (size, size))
+
+    return begun
+
+
+def run(program: str, *words: str, text: bytes = b"", output=subprocess.PIPE, limit: int = resource.RLIM_INFINITY, **variables: str) -> tuple:
+    """Status, output and errors of a run."""
+    env = {**os.environ, "TMPDIR": ".", **variables}
+    try:
+        ran = subprocess.run([program, *words], input=text, stdout=output, stderr=subprocess.PIPE, timeout=LONGEST, check=False, env=env, preexec_fn=limited(limit))
+    except subprocess.TimeoutExpired as why:
+        return f"none, ended by this script: {why}", b"", ""
+    return ran.returncode, ran.stdout or b"", ran.stderr.decode(errors="replace")
+
+
+def expect(what: str, holds: bool, came: tuple) -> None:
+    if not holds:
+        wrong.append(f"fail_uniq: {what}: status {came[0]}, stdout {came[1][:200]!r} of {len(came[1])} bytes, stderr '{came[2][:300]}'")
+
+
+def options(program: str) -> None:
+    """What is asked for, and what is refused."""
+    files = {"one": b"a\nb\na", "two": b"b\na\nc\n", "-odd": b"x\nx\n"}
+    for name, text in files.items():
+        with open(name, "wb") as file:
+            file.write(text)
+    rows = (
+        ([], TEXT, firsts(TEXT), ""),
+        (["-m", "5M", "-d", "."], TEXT, firsts(TEXT), ""),
+        (["-z"], b"a\nb\0a\nb\0\0\0c", firsts(b"a\nb\0a\nb\0\0\0c", b"\0"), ""),
+        (["-c"], TEXT, firsts(TEXT), "far_uniq: 9 lines came, 6 were new\n"),
+        (["one", "two"], b"", b"a\nb\nc\n", ""),
+        (["one", "-", "two"], b"q\na", b"a\nb\nq\nc\n", ""),
+        (["--", "-odd"], b"", b"x\n", ""),
+        ([], b"", b"", ""),
+    )
+    for words, text, printed, said in rows:
+        came = run(program, *words, text=text)
+        expect(f"words {words}", came == (0, printed, said), came)
+    for words in BAD_WORDS:
+        came = run(program, *words, text=TEXT)
+        expect(f"words {words}", came == (2, b"", USAGE), came)
+    draw = random.Random(7)
+    text = b"".join(b"%d%s\n" % (draw.randrange(3000), b"x" * draw.randrange(300)) for _ in range(30_000))
+    came = run(program, "-m", "8M", text=text)
+    expect("lines by chance", came == (0, firsts(text), ""), came)
+
+
+def be_interrupted() -> None:
+    """What a shell begins in the background ignores SIGINT, and so would what it begins."""
+    signal.signal(signal.SIGINT, signal.SIG_DFL)
+
+
+def begun(program: str, *words: str):
+    """A run whose streams are ours."""
+    pipe = subprocess.PIPE
+    return subprocess.Popen([program, *words], stdin=pipe, stdout=pipe, stderr=pipe, env={**os.environ, "TMPDIR": "."}, bufsize=0, preexec_fn=be_interrupted)
+
+
+def most_of(program: str, *words: str, text: bytes, wanted: int) -> tuple:
+    """What a run printed, so many bytes of it, and the most memory that it had until then."""
+    ran = begun(program, *words)
+    giver = threading.Thread(target=ran.stdin.write, args=(text,))
+    giver.start()
+    printed = b""
+    while len(printed) < wanted and select.select([ran.stdout], [], [], LONGEST)[0]:
+        piece = os.read(ran.stdout.fileno(), 1 << 16)
+        if not piece:
+            break
+        printed += piece
+    giver.join()
+    with open(f"/proc/{ran.pid}/status", encoding="ascii") as file:
+        most = int(re.search(r"VmHWM:\s+(\d+) kB", file.read())[1]) * 1024
+    ran.stdin.close()
+    said = ran.stderr.read().decode()
+    printed += ran.stdout.read()
+    return (ran.wait(LONGEST), printed, said), most
+
+
+def memory(program: str) -> None:
+    """The least that does, and that no more is taken than was asked for, and 15 in a hundred."""
+    came = run(program, "-m", "1M", text=TEXT)
+    told = re.fullmatch(r"far_uniq: too little memory: -m (\d+) would do; nothing was printed\n", came[2])
+    expect("1M of memory", came[:2] == (1, b"") and told is not None, came)
+    if told is None:
+        return
+    least = int(told[1])
+    came = run(program, "-m", str(least - 1), text=TEXT)
+    expect("a byte less than the least memory", came == (1, b"", told[0]), came)
+    for size, lines in ((least, 2_000), (8 << 20, 60_000)):
+        text = b"".join(b"%06d a line that is one of many\n" % line for line in range(lines)) * 2
+        came, most = most_of(program, "-m", str(size), text=text, wanted=len(text) // 2)
+        expect(f"{lines} lines in {size} bytes", came == (0, firsts(text), ""), came)
+        if most > size * 1.15:
+            wrong.append(f"fail_uniq: -m {size}: took {most} bytes")
+    text = b"".join(b"%06d\n" % line for line in range(3_000))
+    came = run(program, "-m", str(least), text=text)
+    told = re.fullmatch(r"far_uniq: standard input: line 2049 would be new beyond 2048, all that -m has room for; they were printed\n", came[2])
+    expect("more lines than there is room for", came[0] == 1 and came[1] == text[: 2048 * 7] and told is not None, came)
+
+
+def faults(program: str, library: str) -> None:
+    """Inputs, outputs and far files that fail."""
+    os.mkdir("folder")
+    for words, printed, told in (
+        (["one", "none"], b"a\nb\n", r"far_uniq: none: can't be read at line 4: No such file .*; 2 lines were printed\n"),
+        (["folder"], b"", r"far_uniq: folder: can't be read at line 1: Is a directory .*; 0 lines were printed\n"),
+        (["-d", "none"], b"", r"far_uniq: no far file: No such file .*; nothing was printed\n"),
+    ):
+        came = run(program, *words, text=TEXT)
+        expect(f"words {words}", came[:2] == (1, printed) and re.fullmatch(told, came[2]) is not None, came)
+    long = b"a\nb\n" + b"x" * 4089 + b"\nc\n"
+    came = run(program, text=long)
+    expect("a long line", came == (1, b"a\nb\n", "far_uniq: standard input: line 3 has more than 4088 bytes; 2 lines were printed\n"), came)
+    with open("/dev/full", "wb") as full:
+        came = run(program, text=TEXT, output=full)
+    told = r"far_uniq: can't write at line \d+: No space left .*; what was written is how the right output begins\n"
+    expect("an output that is full", came[0] == 1 and re.fullmatch(told, came[2]) is not None, came)
+    text = b"".join(b"%06d %s\n" % (line, b"x" * 400) for line in range(20_000))
+    came = run(program, "-m", "4M", text=text, limit=1 << 20)
+    told = re.fullmatch(r"far_uniq: standard input: line (\d+): no room, as the far file takes nothing more: is its disk full\?; (\d+) lines were printed\n", came[2])
+    expect("a far file that is full", came[0] == 1 and text.startswith(came[1]) and told is not None and int(told[2]) == came[1].count(b"\n"), came)
+    text = text[: 4 << 20] + b"\n" + text[: 1 << 20]
+    came = run(program, "-m", "4M", text=text, LD_PRELOAD=library, FAIL_CALL="9000")
+    told = re.fullmatch(r"far_uniq: standard input: line \d+: .*; \d+ lines were printed\n", came[2])
+    expect("a far file that fails once", firsts(text).startswith(came[1]) and (came == (0, firsts(text), "") or (came[0] == 1 and told is not None)), came)
+
+
+def pipes(program: str) -> None:
+    """A reader that is gone; lines that come alone; a run that is interrupted, and what it says each second."""
+    ran = begun(program)
+    ran.stdout.close()
+    try:
+        ran.stdin.write(TEXT)
+        ran.stdin.close()
+    except BrokenPipeError:
+        pass
+    said = ran.stderr.read()
+    expect("a reader that is gone", ran.wait(LONGEST) == 1 and said == b"", (ran.returncode, b"", said.decode()))
+    ran = begun(program, "-s")
+    for line in (b"one\n", b"two\n"):
+        ran.stdin.write(line)
+        ready, _, _ = select.select([ran.stdout], [], [], 5)
+        came = os.read(ran.stdout.fileno(), 100) if ready else b""
+        expect(f"a line that comes alone, {line!r}", came == line, (None, came, ""))
+        time.sleep(1.1)
+    expect("a file while it runs", not [name for name in os.listdir(".") if name.startswith("far_uniq.")], (None, b"", ""))
+    ran.send_signal(signal.SIGINT)
+    said = ran.stderr.read().decode()
+    told = re.fullmatch(r"far_uniq: \d+ s, 8 bytes came\n", said)
+    expect("a run that is interrupted", ran.wait(LONGEST) == -signal.SIGINT and told is not None, (ran.returncode, b"", said))
+
+
+def growths(program: str, library: str) -> None:
+    """Each growth refused in turn: the run is whole, or says that there was no memory."""
+    text = b"".join(b"%d\n" % (line % 70) for line in range(200)) + b"last"
+    run(program, "-m", "4M", text=text, LD_PRELOAD=library, COUNT_ALLOC="count")
+    with open("count", encoding="ascii") as file:
+        asked = int(file.read())
+    endings = set()
+    for nth in range(1, asked + 1):
+        came = run(program, "-m", "4M", text=text, LD_PRELOAD=library, FAIL_ALLOC=str(nth))
+        whole = came == (0, firsts(text), "")
+        refused = came[0] == 1 and firsts(text).startswith(came[1]) and REFUSED.fullmatch(came[2]) is not None
+        expect(f"growth {nth} of {asked}", whole or refused, came)
+        endings.add(whole)
+    if not {False} <= endings:
+        wrong.append(f"fail_uniq: of {asked} growths none was refused")
+
+
+def main() -> int:
+    program = os.path.abspath(sys.argv[1])
+    with tempfile.TemporaryDirectory() as folder:
+        os.chdir(folder)
+        libraries = {}
+        for name in ("fail_file", "fail_malloc"):
+            libraries[name] = os.path.join(folder, f"{name}.so")
+            subprocess.run(["cc", "-O2", "-shared", "-fPIC", "-o", libraries[name], f"{HERE}/{name}.c", "-ldl"], check=True)
+        options(program)
+        memory(program)
+        faults(program, libraries["fail_file"])
+        pipes(program)
+        growths(program, libraries["fail_malloc"])
+        left = [name for name in os.listdir(".") if name.startswith("far_uniq.")]
+        if left:
+            wrong.append(f"fail_uniq: left {left}")
+        os.chdir("/")
+    for line in wrong:
+        print(line, file=sys.stderr)
+    return 1 if wrong else 0
+
+
+if __name__ == "__main__":
+    sys.exit(main())
