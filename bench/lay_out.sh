@@ -1,6 +1,7 @@
 #!/usr/bin/env bash
 # Lays out a copy of the repository in which the programs that measure are crates too. Here they aren't (each file has `.in` behind
-# its name): the gate would prove them anew each time, for a sixth of its cost, and no figure is a proof.
+# its name): the gate would prove them anew each time, for a sixth of its cost, and no figure is a proof. A file with `.same` behind its
+# name has the text of another, whose path from bench/programs it tells.
 #
 #     bench/lay_out.sh FOLDER     a folder that isn't there yet
 #
@@ -15,7 +16,10 @@ programs="$to/bench/programs"
 while IFS= read -r file; do
     at="$to/crates/${file#"$programs/"}"
     mkdir -p "$(dirname "$at")"
-    mv "$file" "${at%.in}"
+    case "$file" in
+    *.same) cp "$root/bench/programs/$(cat "$file")" "${at%.same}" ;;
+    *) mv "$file" "${at%.in}" ;;
+    esac
 done < <(find "$programs" -mindepth 2 -type f)
 cat "$programs/crates.in" >>"$to/crates.txt"
 rm -r "$programs"
