@@ -1,22 +1,18 @@
 #!/usr/bin/env python3
-"""Writes docs/API.md: what a program may name of the crates that it uses, each with its comment and its contract.
+"""Prints what a program may name of the crates that it uses, each with its comment and its contract, as a page.
 
-usage: api.py            writes the page anew
-       api.py --check    says where the page is another than the sources make it, and then ends with 1
+usage: api.py >FILE
 """
-import difflib
 import pathlib
 import re
-import sys
 
 TOP = pathlib.Path(__file__).resolve().parent.parent
-PAGE = TOP / "docs" / "API.md"
 CRATES = ("far_pool", "far_map", "far_array", "far_large", "far_private", "far_heap", "far_file", "far_objects")
 HEAD = """# What a program may call
 
 Of each crate the types, calls and clauses that another crate sees, made from the sources by scripts/api.py. `ensures` says what holds after
 a call, `requires` what has to hold before it; `OnOk`, `OnErr`, `IfOk`, `IfErr` begin what is said of one outcome, `x.old` and `x.new` are
-a value before and after. How to read a contract: [PROVED](PROVED.md).
+a value before and after. How to read a contract: docs/PROVED.md.
 """
 TYPE = re.compile(r"pub (?:struct|enum|trait|const|type) (\w+)")
 CALL = re.compile(r"(?:pub )?(?:const )?fn (\w+)")
@@ -101,7 +97,7 @@ def section(crate: pathlib.Path) -> str:
         for name, call, head, comment in items(path):
             if name in of:
                 of[name].append((call, head, comment))
-    text = f"\n## {crate.name}\n\n[Its page](../crates/{crate.name}/README.md).\n"
+    text = f"\n## {crate.name}\n\nIts page: crates/{crate.name}/README.md.\n"
     for name, rows in ((name, rows) for name, rows in of.items() if rows):
         rows.sort(key=lambda row: row[0] != "")
         text += f"\n### {name}\n"
@@ -111,18 +107,9 @@ def section(crate: pathlib.Path) -> str:
     return text
 
 
-def main() -> int:
-    page = HEAD + "".join(section(TOP / "crates" / name) for name in CRATES)
-    if sys.argv[1:] != ["--check"]:
-        PAGE.write_text(page)
-        return 0
-    there = PAGE.read_text() if PAGE.exists() else ""
-    if there == page:
-        return 0
-    print("api: docs/API.md is older than the sources; run scripts/api.py")
-    print("\n".join(list(difflib.unified_diff(there.splitlines(), page.splitlines(), lineterm="", n=1))[:20]))
-    return 1
+def main() -> None:
+    print(HEAD + "".join(section(TOP / "crates" / name) for name in CRATES), end="")
 
 
 if __name__ == "__main__":
-    sys.exit(main())
+    main()
