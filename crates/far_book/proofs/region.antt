@@ -31,6 +31,7 @@ pub mod JobsEnd
 pub mod Learning
 pub mod LearningOn
 pub mod Leaving
+pub mod MadeObjects
 pub mod Marked
 pub mod Moved
 pub mod MovesReached

@@ -23,6 +23,7 @@ pub mod Order
 pub mod Offering
 pub mod Own
 pub mod Placeable
+pub mod Placing
 pub mod Reached
 pub mod Reading
 pub mod Releasing

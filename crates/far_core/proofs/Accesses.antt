@@ -192,7 +192,7 @@ module _ (s : State) (law : Law s) (m p : ℕ) (rest : IsAtRest s m p) where
     pub marked : four.cell ≡ put s.cell p (written_word (s.cell p))
     marked = (λ i. put (put s.cell p (hot_word (s.cell p))) p (bit_or (hot i) (2 ^ position Dirty))) ∙ put_again s.cell p (hot_word (s.cell p)) (written_word (s.cell p))
 
-    reads : read_of (four.cell p) ≡ map_mark Dirty (map_mark Hot (read_of (s.cell p)))
+    pub reads : read_of (four.cell p) ≡ map_mark Dirty (map_mark Hot (read_of (s.cell p)))
     reads = ap read_of (put_same three.cell p (bit_or (three.cell p) (2 ^ position Dirty)) p refl) ∙ (soil_reads three law_three p (rw holds refl)).0
         ∙ ap (λ w. map_mark Dirty (read_of w)) hot ∙ ap (map_mark Dirty) (hot_read s law p rest.used)
 

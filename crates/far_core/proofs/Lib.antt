@@ -29,6 +29,7 @@ pub mod Marking
 pub mod NamingFacts
 pub mod NamingOwed
 pub mod Namings
+pub mod NewObjects
 pub mod NewSpans
 pub mod Observations
 pub mod ObjectFacts

@@ -44,7 +44,7 @@ whole_word word q fits =
     ∙ packs_back word (8 * q + 8) q fits (subst (λ d. word q < 2 ^ d) (sym room) fits)
 
 -- a word that has none of the bytes stays
-untouched : (word : ℕ → ℕ) (from n : ℕ) (row : ℕ → ℕ) (q : ℕ) → word q < 2 ^ 64 → (8 * q + 8 ≤ from) ⊎ (from + n ≤ 8 * q) → word_at (with_row (byte_at word) from n row) q ≡ word q
+pub untouched : (word : ℕ → ℕ) (from n : ℕ) (row : ℕ → ℕ) (q : ℕ) → word q < 2 ^ 64 → (8 * q + 8 ≤ from) ⊎ (from + n ≤ 8 * q) → word_at (with_row (byte_at word) from n row) q ≡ word q
 untouched word from n row q fits out =
     word_same (with_row (byte_at word) from n row) (byte_at word) q q (λ k lt. row_out (byte_at word) from n row (8 * q + k) (beside k lt out)) ∙ whole_word word q fits where
       beside : (k : ℕ) → k < 8 → (8 * q + 8 ≤ from) ⊎ (from + n ≤ 8 * q) → (8 * q + k < from) ⊎ (from + n ≤ 8 * q + k)

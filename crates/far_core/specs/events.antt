@@ -18,6 +18,7 @@ pub mod Mark
 pub mod Name
 pub mod Naming
 pub mod NamingRow
+pub mod NewObjects
 pub mod NewSpans
 pub mod Next
 pub mod Offer

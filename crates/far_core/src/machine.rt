@@ -12,6 +12,7 @@ mod calls;
 pub mod laws;
 mod observing;
 mod opening;
+mod placing;
 mod ranges;
 
 use crate::memory::Memory;

@@ -13,6 +13,7 @@ mod copying;
 pub(crate) mod jobs;
 mod offering;
 mod owner;
+mod placing;
 mod quiet;
 mod ranges;
 pub(crate) mod reading;

@@ -52,6 +52,7 @@ pub mod LiveOnce
 pub mod LiveOrder
 pub mod LogBits
 pub mod Looks
+pub mod MadeObjects
 pub mod MarkRuns
 pub mod MarkSteps
 pub mod Marks

@@ -1,13 +1,13 @@
 //! The book over a core of its own: what the core shows, and what owners do.
 
-ghost use Rattle.std.specs.Prelude.{◌≡◌, ◌+◌, ◌-◌, ◌*◌, ◌/◌, ◌^◌, ◌<◌, ◌≤◌, ℕ, Some, true, false, length, slice_index, IsSome, IfOk, IfErr};
-ghost use Rattle.far_word.specs.declared.sizes.TheConstants.{CELLS};
+ghost use Rattle.std.specs.Prelude.{◌≡◌, ◌+◌, ◌-◌, ◌*◌, ◌/◌, ◌^◌, ◌<◌, ◌≤◌, ℕ, None, Some, true, false, length, slice_index, IsSome, IfOk, IfErr};
+ghost use Rattle.far_word.specs.declared.sizes.TheConstants.{CELLS, LONGEST};
 ghost use Rattle.far_word.specs.Sizes.{words_for};
 ghost use Rattle.far_word.specs.declared.pointer.PtrWord.{PtrWord};
 ghost use Rattle.far_word.specs.Pointer.{read_of, word_of};
 ghost use Rattle.far_word.specs.Pointer.{without_owner_marks as cold};
 ghost use Rattle.far_core.specs.events.Accesses.{IsAtRest, heats, hot_word, overwrites_in, overwritten, with_cell};
-ghost use Rattle.far_core.specs.events.Legal.{Legal};
+ghost use Rattle.far_core.specs.events.Legal.{IsClosed, Legal};
 ghost use Rattle.far_core.specs.events.Pin.{place_to_view};
 ghost use Rattle.far_core.specs.events.Ranges.{AllLegal, after_events, stores};
 ghost use Rattle.far_core.specs.events.Step.{after, answer, data_len, data_word, step_of};
@@ -20,13 +20,14 @@ ghost use Rattle.far_core.specs.world.WorldOf.{world_of};
 ghost use Rattle.far_hand.specs.Makers.{is_owners};
 ghost use Rattle.far_hand.specs.Others.{OthersChange};
 ghost use Rattle.far_book.specs.book.Actions.{Does, Owns};
+ghost use Rattle.far_book.specs.book.Placing.{PlacesWith};
 ghost use Rattle.far_book.specs.book.SealedLogs.{KeepsSealed};
 
 use crate::book::Book;
 use far_core::{Core, Event, Reply};
 use far_device::Device;
 use far_hand::{Plain, is_owners};
-use far_word::{Mark, Place};
+use far_word::{HeadWord, Mark, Place, Refused, size_of};
 
 impl<D: Device + Drop> Book<Plain, D> {
     /// The core, to be read.
@@ -92,6 +93,40 @@ impl<D: Device + Drop> Book<Plain, D> {
             unreachable!()
         };
         word
+    }
+
+    /// Makes an object of `len` bytes and of data structure `ds` for a pointer whose cell is free, and answers where. Its first bytes are
+    /// `bytes`, the others 0. Its owner, which is closed and remembers no epoch, uses the pointer from then on, which has DIRTY alone: what is
+    /// left where [`Book::place`] places zeros, and the owner adopts the pointer, writes the bytes within a scope, asks for the object to be
+    /// moved, and it stays.
+    ///
+    /// A refusal is [`Refused::NoRoom`], as of `place`. Nothing has changed then.
+    #[inline(always)]
+    pub fn place_with(
+        &mut self,
+        owner: u8,
+        pointer: u16,
+        len: u16,
+        ds: u8,
+        bytes: &[u8],
+    ) -> Result<Place, Refused>
+        requires closed { IsClosed (core_state self.old.near.core) owner }
+        requires fresh { (core_state self.old.near.core).remembered owner ≡ None }
+        requires own { pointer / CELLS ≡ owner }
+        requires free { (core_state self.old.near.core).cell pointer ≡ 0 }
+        requires some { 0 < len }
+        requires most { len ≤ LONGEST }
+        requires front { length bytes.now ≤ len }
+        ensures { PlacesWith self.old self.new owner pointer len ds bytes.now result }
+    {
+        let size = size_of(len);
+        let Some(place) = self.ledger.room(size, true) else {
+            return Err(Refused::NoRoom);
+        };
+        let head = HeadWord { pointer, len, ds };
+        self.near.core.place_with(owner, head, place, bytes);
+        self.ledger.take(pointer, size, place);
+        Ok(place)
     }
 
     /// An owner sets MOVE or DROP on a pointer that it uses and doesn't hold, and uses no longer what it drops: the word before.

@@ -406,7 +406,7 @@ impl Memory {
     }
 
     /// Takes the span at a new place: it ends its log, and its log is the open one.
-    fn take(&mut self, pointer: u16, new: u64, len: u16, place: Place)
+    pub(crate) fn take(&mut self, pointer: u16, new: u64, len: u16, place: Place)
         requires pointer { pointer < CELLS * (state_of self.old).mutators }
         requires log { place.log < (state_of self.old).logs }
         requires fits { place.at + size_of len ≤ LOG_WORDS }

@@ -53,7 +53,7 @@ impl Memory {
     }
 
     /// Writes zeros over the words from one on.
-    fn write_zeros(&mut self, from: usize, count: usize)
+    pub(crate) fn write_zeros(&mut self, from: usize, count: usize)
         requires { from + count ≤ LOG_WORDS * (state_of self.old).logs }
         ensures { state_of self.new ≡ record (state_of self.old) { word = with_row (state_of self.old).word from count (λ _. 0) } }
     {

@@ -1,13 +1,13 @@
 //! The evacuator over a core of its own: what owners do.
 
-ghost use Rattle.std.specs.Prelude.{◌≡◌, ◌+◌, ◌-◌, ◌*◌, ◌/◌, ◌^◌, ◌<◌, ◌≤◌, ℕ, Some, true, false, length, slice_index, IsSome, IfOk, IfErr};
-ghost use Rattle.far_word.specs.declared.sizes.TheConstants.{CELLS};
+ghost use Rattle.std.specs.Prelude.{◌≡◌, ◌+◌, ◌-◌, ◌*◌, ◌/◌, ◌^◌, ◌<◌, ◌≤◌, ℕ, None, Some, true, false, length, slice_index, IsSome, IfOk, IfErr};
+ghost use Rattle.far_word.specs.declared.sizes.TheConstants.{CELLS, LONGEST};
 ghost use Rattle.far_word.specs.Sizes.{words_for};
 ghost use Rattle.far_word.specs.declared.pointer.PtrWord.{PtrWord};
 ghost use Rattle.far_word.specs.Pointer.{read_of, word_of};
 ghost use Rattle.far_word.specs.Pointer.{without_owner_marks as cold};
 ghost use Rattle.far_core.specs.events.Accesses.{IsAtRest, heats, hot_word, overwrites_in, overwritten, with_cell};
-ghost use Rattle.far_core.specs.events.Legal.{Legal};
+ghost use Rattle.far_core.specs.events.Legal.{IsClosed, Legal};
 ghost use Rattle.far_core.specs.events.Pin.{place_to_view};
 ghost use Rattle.far_core.specs.events.Ranges.{AllLegal, after_events, stores};
 ghost use Rattle.far_core.specs.events.Step.{after, answer, data_len, data_word, step_of};
@@ -18,6 +18,7 @@ ghost use Rattle.far_core.specs.world.WorldOf.{world_of};
 ghost use Rattle.far_hand.specs.Makers.{is_owners};
 ghost use Rattle.far_hand.specs.Others.{OthersChange};
 ghost use Rattle.far_book.specs.book.Actions.{Does, Owns};
+ghost use Rattle.far_book.specs.book.Placing.{PlacesWith};
 ghost use Rattle.far_book.specs.book.SealedLogs.{KeepsSealed};
 ghost use Rattle.far_evac.specs.EvacOf.{SameRound};
 
@@ -25,7 +26,7 @@ use crate::evac::Evac;
 use far_book::Plain;
 use far_core::{Event, Reply};
 use far_device::Device;
-use far_word::{Mark, Place};
+use far_word::{Mark, Place, Refused};
 
 impl<D: Device + Drop> Evac<Plain, D> {
     /// Makes an owner's event. Any other is answered [`Reply::Refused`], and nothing has changed.
@@ -73,6 +74,34 @@ impl<D: Device + Drop> Evac<Plain, D> {
         ensures round { SameRound self.old self.new }
     {
         self.book.adopt(owner, pointer)
+    }
+
+    /// Makes an object of `len` bytes and of data structure `ds` for a pointer whose cell is free, and answers where. Its first bytes are
+    /// `bytes`, the others 0. Its owner, which is closed and remembers no epoch, uses the pointer from then on, which has DIRTY alone: what is
+    /// left where zeros are placed, and the owner adopts the pointer, writes the bytes within a scope, asks for the object to be moved, and it
+    /// stays.
+    ///
+    /// A refusal is [`Refused::NoRoom`]: the open log has no room for it, and one log at most is free. Nothing has changed then.
+    #[inline(always)]
+    pub fn place_with(
+        &mut self,
+        owner: u8,
+        pointer: u16,
+        len: u16,
+        ds: u8,
+        bytes: &[u8],
+    ) -> Result<Place, Refused>
+        requires closed { IsClosed (core_state self.old.book.near.core) owner }
+        requires fresh { (core_state self.old.book.near.core).remembered owner ≡ None }
+        requires own { pointer / CELLS ≡ owner }
+        requires free { (core_state self.old.book.near.core).cell pointer ≡ 0 }
+        requires some { 0 < len }
+        requires most { len ≤ LONGEST }
+        requires front { length bytes.now ≤ len }
+        ensures placed { PlacesWith self.old.book self.new.book owner pointer len ds bytes.now result }
+        ensures round { SameRound self.old self.new }
+    {
+        self.book.place_with(owner, pointer, len, ds, bytes)
     }
 
     /// An owner sets MOVE or DROP on a pointer that it uses and doesn't hold, and uses no longer what it drops: the word before.
