@@ -1,5 +1,5 @@
 -- Objects lose HOT where they lie.
-use Rattle.std.proofs.Common.{◌≡◌, ◌≢◌, ℕ, ◌+◌, ◌*◌, ◌/◌, ◌<◌, arith, refl, sym, ap, subst, ◌∙◌, Bool, true, false, cond, not, ◌&&◌, Option, Some, None, List, Result, inl, inr}
+use Rattle.std.proofs.Common.{◌≡◌, ◌≢◌, ℕ, ◌+◌, ◌*◌, ◌<◌, arith, refl, sym, ap, subst, ◌∙◌, Bool, true, false, cond, not, ◌&&◌, Option, Some, None, List, inl, inr}
 use Rattle.std.specs.Prelude.{IfSome, MatchOption}
 use Rattle.std.proofs.lemmas.Bool.{cases_eq, false≢true, true≢false}
 use Rattle.far_word.specs.declared.mark.Mark.TheVariants.{Moved}
@@ -20,9 +20,8 @@ use Rattle.far_book.specs.book.Dealing.{goal, goal_of, has_evac, moved_now, orde
 use Rattle.far_book.specs.book.Effects.{moved, order_after, stayed}
 use Rattle.far_book.specs.book.Laws.{IsUnmarked}
 use Rattle.far_book.proofs.region.MovesReached.{staying}
-use Rattle.far_evac.specs.RoundSteps.{among}
 use Rattle.far_alone.specs.Dereference.{says_near}
-use Rattle.far_private.specs.LastRound.{IsBare, IsCold, IsCooled, SameLogs, may_cool}
+use Rattle.far_private.specs.LastRound.{IsBare, IsCold, IsCooled, may_cool}
 use Rattle.far_private.specs.Objects.{Settled}
 use Rattle.far_private.specs.Steps.{Keeps}
 use Rattle.far_private.proofs.Coming.{asked_read, asks, asks_law, evac_is, kept, said}

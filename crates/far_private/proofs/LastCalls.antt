@@ -1,7 +1,6 @@
 -- The calls of a call's last round, one after the other.
-use Rattle.std.proofs.Common.{◌≡◌, ◌≢◌, ℕ, ◌+◌, ◌<◌, ◌≤◌, arith, refl, sym, ap, subst, ◌∙◌, Bool, true, false, Some, List, [], ◌∷◌, map, take, length, Result, Ok, Err, inl, inr}
-use Rattle.std.specs.Prelude.{IfErr, IfOk, OnOk, ◌⊎◌, ◌==◌, eqb}
-use Rattle.std.specs.List.{IsDistinct}
+use Rattle.std.proofs.Common.{◌≡◌, ℕ, ◌≤◌, arith, refl, sym, ap, subst, ◌∙◌, true, false, Some, List, [], ◌∷◌, map, take, length, Result, Ok, Err, inl, inr}
+use Rattle.std.specs.Prelude.{IfErr, IfOk, OnOk, ◌⊎◌, ◌==◌}
 use Rattle.std.proofs.lemmas.Bool.{eqb-true, false≢true, true≢false}
 use Rattle.far_word.specs.declared.refused.Refused.{Refused}
 use Rattle.far_word.specs.declared.refused.Refused.TheVariants as refusals
@@ -13,7 +12,6 @@ use Rattle.far_book.specs.book.Rows.{row_of}
 use Rattle.far_hand.specs.declared.plain.Plain.{Plain}
 use Rattle.far_policy.specs.Choice.{IsBadChoice}
 use Rattle.far_policy.specs.Logs.{logs_of}
-use Rattle.far_evac.specs.declared.phase.Phase.{Phase}
 use Rattle.far_evac.specs.declared.phase.Phase.TheVariants.{Idle, Marking}
 use Rattle.far_evac.specs.Choosing.{after_aborting, after_selecting}
 use Rattle.far_evac.specs.EvacOf.{EvacOf, moment_alone}

@@ -1,8 +1,8 @@
 -- What the steps of a call's last round leave.
-use Rattle.std.proofs.Common.{◌≡◌, ◌≢◌, ◌↔◌, ℕ, ◌+◌, ◌<◌, ◌≤◌, ◌==◌, ◌^◌, ◌/◌, nat_le, nat_lt, arith, refl, sym, ap, subst, ◌∙◌, Bool, true, false, cond, not, ◌&&◌, ◌||◌, eqb, find, Option, Some, None, List, [], ◌∷◌, length, filter, inl, inr}
+use Rattle.std.proofs.Common.{◌≡◌, ◌≢◌, ℕ, ◌<◌, ◌≤◌, ◌^◌, ◌/◌, nat_le, arith, refl, sym, ap, subst, ◌∙◌, Bool, true, false, cond, not, ◌||◌, eqb, find, Option, Some, None, List, [], ◌∷◌, length, filter, inl, inr}
 use Rattle.std.specs.Prelude.{Contains}
-use Rattle.std.specs.List.{AllByRecursion, IsDistinct, range_with_len}
-use Rattle.std.proofs.lemmas.Bool.{cases_eq, cond_both, eq-eqb, eqb-true, false≢true, ne_eqb, true≢false}
+use Rattle.std.specs.List.{IsDistinct, range_with_len}
+use Rattle.std.proofs.lemmas.Bool.{cases_eq, cond_both, eq-eqb, false≢true, ne_eqb, true≢false}
 use Rattle.std.proofs.lemmas.Bool.Decides.{nat_tests}
 use Rattle.far_word.specs.declared.mark.Marks.{Marks}
 use Rattle.far_word.specs.declared.pointer.Place.{Place}
@@ -16,26 +16,21 @@ use Rattle.far_core.specs.state.Law.{Law}
 use Rattle.far_core.specs.state.Room.{room}
 use Rattle.far_core.specs.state.State.{State}
 use Rattle.far_core.proofs.Cells.{unused}
-use Rattle.far_core.proofs.Put.{put_both, put_other, put_same}
+use Rattle.far_core.proofs.Put.{put_other, put_same}
 use Rattle.far_book.specs.book.Dealing.{has_evac}
-use Rattle.far_book.specs.book.Releasing.{released}
 use Rattle.far_book.proofs.region.EvictingLaw.{evicting}
 use Rattle.far_book.proofs.region.Owns.{own_law}
-use Rattle.far_evac.specs.declared.phase.Phase.{Phase}
-use Rattle.far_evac.specs.declared.phase.Phase.TheVariants.{Evacuating, Idle, Marking, Waiting}
-use Rattle.far_evac.specs.Choosing.{after_aborting, after_selecting}
+use Rattle.far_evac.specs.declared.phase.Phase.TheVariants.{Evacuating, Idle, Waiting}
+use Rattle.far_evac.specs.Choosing.{after_aborting}
 use Rattle.far_evac.specs.Dealings.{says}
 use Rattle.far_evac.specs.Laws.{IsGivenUp, but_evac}
 use Rattle.far_evac.specs.Live.{is_empty, lacking, live_among}
-use Rattle.far_evac.specs.LiveLaws.{IsNearIn}
 use Rattle.far_evac.specs.Marking.{after_marking, leaves_some, marked_core}
-use Rattle.far_evac.specs.Moment.{Moment, nothing}
+use Rattle.far_evac.specs.Moment.{Moment}
 use Rattle.far_evac.specs.MomentLaw.{MomentLaw, has_risen}
-use Rattle.far_evac.specs.Ready.{Ready}
 use Rattle.far_evac.specs.RoundSteps.{advanced, among, with_clear_below}
-use Rattle.far_evac.specs.Turning.{most_objects}
-use Rattle.far_evac.specs.Waiting.{after_polling, first_open, holds_up, polled_to}
-use Rattle.far_evac.specs.Walk.{Drops, Goes, Moves, Walked, Way, begun, ended, freed, hot_way, is_done, walked, way_of}
+use Rattle.far_evac.specs.Waiting.{after_polling, holds_up, polled_to}
+use Rattle.far_evac.specs.Walk.{Drops, Goes, Moves, Walked, Way, begun, ended, freed, hot_way, is_done, walked}
 use Rattle.far_evac.proofs.Bounds.{starts_within}
 use Rattle.far_evac.proofs.Framed.{so_one}
 use Rattle.far_evac.proofs.InOrder.{in_order}
@@ -43,12 +38,12 @@ use Rattle.far_evac.proofs.Lacking.{all_at}
 use Rattle.far_evac.proofs.LeadingWalks.{GoesLawfully, KeepsLawfully, lifted_lawfully}
 use Rattle.far_evac.proofs.LiveOrder.{live_in_order}
 use Rattle.far_evac.proofs.Marks.{clears_cells, is_given_up, is_marked, marking_frame}
-use Rattle.far_evac.proofs.NearBut.{near_but, still_near}
+use Rattle.far_evac.proofs.NearBut.{still_near}
 use Rattle.far_evac.proofs.Readiness.{risen_is_ready}
 use Rattle.far_evac.proofs.SmallSteps.{gone_so, holding}
 use Rattle.far_evac.proofs.Tours.{core_so, goes_when}
 use Rattle.far_evac.proofs.Walks.{walk_is}
-use Rattle.far_private.specs.LastRound.{AreEmptied, IsBare, IsCold, IsCooled, SameLogs, may_cool}
+use Rattle.far_private.specs.LastRound.{AreEmptied, IsBare, IsCold, SameLogs}
 use Rattle.far_private.proofs.TwoFree.{by_either}
 
 pub same_none : (s : State) → SameLogs s s

@@ -1,6 +1,7 @@
 pub mod Beginning
 pub mod ByNumber
 pub mod Bytes
+pub mod BytesPlaced
 pub mod Calling
 pub mod Changed
 pub mod Coming

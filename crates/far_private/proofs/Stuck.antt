@@ -1,25 +1,23 @@
 -- Why a call has no room once its last round was made.
-use Rattle.std.proofs.Common.{◌≡◌, ◌≢◌, ℕ, ◌+◌, ◌<◌, ◌≤◌, ◌/◌, arith, refl, sym, ap, subst, ◌∙◌, Bool, true, false, cond, Option, Some, None, List, length, Result, Ok, Err, inl, inr}
+use Rattle.std.proofs.Common.{◌≡◌, ◌≢◌, ℕ, ◌+◌, ◌≤◌, ◌/◌, refl, sym, ap, subst, ◌∙◌, Bool, true, false, cond, Option, Some, None, List, length, Result, Ok, Err, inl, inr}
 use Rattle.std.specs.Prelude.{IfErr, IfSome, OnOk}
-use Rattle.far_word.specs.declared.mark.Marks.{Marks}
 use Rattle.far_word.specs.declared.pointer.Place.{Place}
-use Rattle.far_word.specs.declared.pointer.PtrWord.TheVariants.{Near}
 use Rattle.far_word.specs.declared.sizes.TheConstants.{CELLS}
 use Rattle.far_word.specs.declared.refused.Refused.{Refused}
 use Rattle.far_word.specs.declared.refused.Refused.TheVariants.{Damaged, Device, EpochsSpent, Memory, NoRoom}
 use Rattle.far_word.specs.Bytes.{bytes_of}
 use Rattle.far_word.specs.Pointer.{read_of}
-use Rattle.far_word.specs.Sizes.{size_of, words_for}
-use Rattle.far_word.proofs.ByteLaws.{bytes_of-same, length-bytes_of}
+use Rattle.far_word.specs.Sizes.{size_of}
+use Rattle.far_word.proofs.ByteLaws.{bytes_of-same}
 use Rattle.far_core.specs.state.Law.{Law}
 use Rattle.far_core.specs.state.State.{State, addr}
 use Rattle.far_core.specs.world.World.{Group}
 use Rattle.far_core.specs.world.WorldOf.{object_of, world_of}
 use Rattle.far_device.specs.declared.fault.DeviceFault.{DeviceFault}
-use Rattle.far_book.specs.book.Asking.{AsksToEvict, HasBytes, fault_of}
+use Rattle.far_book.specs.book.Asking.{HasBytes, fault_of}
 use Rattle.far_evac.specs.Asked.{IsRefusedWrite}
 use Rattle.far_evac.specs.Moment.{Moment, Tally}
-use Rattle.far_evac.specs.Walk.{Goes, Way, hot_way, way_of}
+use Rattle.far_evac.specs.Walk.{Goes, way_of}
 use Rattle.far_evac.proofs.Tours.{goes_when}
 use Rattle.far_core.specs.state.Room.{free_logs, room}
 use Rattle.far_book.specs.book.Dealing.{goal}

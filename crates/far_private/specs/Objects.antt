@@ -87,6 +87,10 @@ rewritten from new x = record { len = x.len; ds = x.ds; bytes = option_map (λ b
 abbrev pub with_written : ℕ → ℕ → List ℕ → Objects → Objects
 with_written p from new o = record o { object = put o.object p (option_map (rewritten from new) (o.object p)) }
 
+-- a new object whose first bytes are these, and the others 0
+abbrev pub with_filled : ℕ → ℕ → ℕ → List ℕ → Objects → Objects
+with_filled p len ds bytes o = with_written p 0 bytes (with_new p len ds o)
+
 -- ---- when an access is refused before anything is done: the pointer has no object; or the range is empty, or passes the object's end
 abbrev pub access_refusal : Objects → ℕ → ℕ → ℕ → Option Refused
 access_refusal o p from count = if is_some (o.object p) then (if nat_lt 0 count && nat_le (from + count) (len_in o p) then None else Some Range) else Some NotHeld

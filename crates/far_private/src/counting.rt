@@ -1,6 +1,6 @@
 //! What a heap has, and what it has done.
 
-ghost use Rattle.std.specs.Prelude.{◌≡◌, ◌+◌, ◌*◌, ◌<◌, IsSome, is_some, length, filter, map, sum};
+ghost use Rattle.std.specs.Prelude.{◌≡◌, ◌+◌, ◌*◌, ◌<◌, ◌≤◌, IsSome, is_some, length, filter, map, sum};
 ghost use Rattle.std.specs.List.{range_with_len};
 ghost use Rattle.far_word.specs.Mark.{bit_of};
 ghost use Rattle.far_word.specs.Pointer.{read_of};
@@ -50,6 +50,7 @@ pub(crate) fn tell<D: Device + Drop>(evac: &Evac<Plain, D>) -> Statistics
     ensures far_bytes { result.far_bytes ≡ sum (map (far_len (state_in evac.now)) (range_with_len 0 2048)) }
     ensures live { result.live ≡ sum (map (live_bytes (state_in evac.now)) (range_with_len 0 (state_in evac.now).logs)) }
     ensures bytes { result.live + result.dead + result.unused ≡ 4096 * (state_in evac.now).logs }
+    ensures spared { result.writes_spared ≤ result.evictions }
     ensures rounds { result.rounds ≡ (state_in evac.now).epoch }
     ensures faults { result.device_faults ≡ D.faults evac.now.book.device }
 {
@@ -64,12 +65,20 @@ pub(crate) fn tell<D: Device + Drop>(evac: &Evac<Plain, D>) -> Statistics
         unused,
         far_bytes,
         fetches: done.fetched,
-        evictions: done.written.saturating_add(done.spared),
+        evictions: evictions(done.written, done.spared),
         writes_spared: done.spared,
         moves: done.moved,
         rounds: core_of(evac).epoch(),
         device_faults: evac.book().faults(),
     }
+}
+
+// How many objects went far, of which so many were written, and so many weren't.
+#[inline(always)]
+fn evictions(written: u64, spared: u64) -> u64
+    ensures { spared ≤ result }
+{
+    written.saturating_add(spared)
 }
 
 // How many objects are near, how many are far, and the bytes of those.

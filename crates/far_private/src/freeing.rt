@@ -1,6 +1,6 @@
 //! Rounds that a caller asks for.
 
-ghost use Rattle.std.specs.Prelude.{◌≡◌, ◌≤◌, ℕ, List, Ok, IfOk, IfErr};
+ghost use Rattle.std.specs.Prelude.{◌≡◌, ◌≤◌, ℕ, List, Ok, IfOk, IfErr, length};
 ghost use Rattle.far_log.specs.declared.row.LogRow.{LogRow};
 ghost use Rattle.far_evac.specs.declared.phase.Phase.TheVariants.{Idle};
 ghost use Rattle.far_private.specs.NoRound.{IsNoRound};
@@ -29,7 +29,7 @@ pub(crate) fn free_logs<P: Policy, D: Device + Drop>(
 ) -> Result<usize, Refused>
     ensures keeps { Keeps (state_in evac.old) (state_in evac.new) }
     ensures few { IfOk result (λ freed. freed ≤ most) }
-    ensures named { IfOk result (λ _. (rows : List LogRow) × (logs : List ℕ) × P.gives policy.old rows most (Ok logs) policy.new) }
+    ensures named { IfOk result (λ freed. (rows : List LogRow) × (logs : List ℕ) × P.gives policy.old rows most (Ok logs) policy.new × (freed ≤ length logs)) }
     ensures refused { IfErr result (λ why. IsNoRound P.gives policy.old policy.new most why) }
 {
     end_round(evac);
@@ -48,7 +48,7 @@ fn begin<P: Policy, D: Device + Drop>(
     requires idle { evac.old.phase ≡ Idle }
     ensures keeps { Keeps (state_in evac.old) (state_in evac.new) }
     ensures few { IfOk result (λ chosen. chosen ≤ most) }
-    ensures named { IfOk result (λ _. (rows : List LogRow) × (logs : List ℕ) × P.gives policy.old rows most (Ok logs) policy.new) }
+    ensures named { IfOk result (λ chosen. (rows : List LogRow) × (logs : List ℕ) × P.gives policy.old rows most (Ok logs) policy.new × (chosen ≤ length logs)) }
     ensures refused { IfErr result (λ why. IsNoRound P.gives policy.old policy.new most why) }
 {
     match evac.select(policy, most) {

@@ -91,6 +91,8 @@ impl<D: Device + Drop> PrivateHeap<D> {
     /// Refused, in this order: [`Refused::Length`] unless an object has 1 to 4,088 bytes, [`Refused::NoPointer`] where each of the
     /// 2,048 pointers has an object, and [`Refused::NoRoom`] where no log has room after so many rounds: of three logs or more only where the
     /// device refused to take an object. [`Refused::EpochsSpent`] in its place where 2^62 rounds were made. Nothing has changed then.
+    // As a call of its own it takes 61 instructions more.
+    #[inline(always)]
     pub fn alloc(&mut self, len: u16, structure: u8) -> Result<u16, Refused>
         ensures made { IfOk result (λ p. (p < POINTERS) × (object self.old p ≡ None) × (self.new ≡ with_new p len structure self.old)) }
         ensures object { IfOk result (λ p. object self.new p ≡ Some (new_object self.old.honest len structure)) }

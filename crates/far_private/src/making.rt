@@ -3,17 +3,17 @@
 ghost use Rattle.std.specs.Prelude.{◌≡◌, ◌≤◌, ◌<◌, length, IfOk, IfErr, OnErr};
 ghost use Rattle.far_word.specs.declared.sizes.TheConstants.{LONGEST};
 ghost use Rattle.far_private.specs.Causes.{IsStuck, IsWant};
-ghost use Rattle.far_private.specs.Looks.{IsFresh, with_made};
-ghost use Rattle.far_private.specs.Objects.{Settled, len_in, objects_of, state_in, with_written};
+ghost use Rattle.far_private.specs.Looks.{with_made};
+ghost use Rattle.far_private.specs.Objects.{Settled, objects_of, state_in};
 
-use crate::access::overwrite_cold;
-use crate::places::place_new;
+use crate::places::place_filled;
 use far_book::Plain;
 use far_device::Device;
 use far_evac::Evac;
 use far_word::Refused;
 
 /// Places a new object of these bytes, making rounds where there is no room for it. Nothing has changed where it is refused.
+#[inline(always)]
 pub(crate) fn place_with<D: Device + Drop>(
     evac: &mut Evac<Plain, D>,
     pointer: u16,
@@ -31,24 +31,5 @@ pub(crate) fn place_with<D: Device + Drop>(
     ensures why { IfErr result (λ why. IsWant why) }
     ensures stuck { IfErr result (λ why. IsStuck D D.writes (state_in evac.old) why) }
 {
-    match place_new(evac, pointer, bytes.len() as u16, structure) {
-        Ok(()) => {
-            fill_new(evac, pointer, bytes);
-            Ok(())
-        }
-        Err(why) => Err(why),
-    }
-}
-
-// Writes the bytes of a new object. It has no HOT then, as none that was just made has.
-fn fill_new<D: Device + Drop>(evac: &mut Evac<Plain, D>, pointer: u16, bytes: &[u8])
-    requires settled { Settled (state_in evac.old) }
-    requires fresh { IsFresh (state_in evac.old) pointer }
-    requires some { 0 < length bytes.now }
-    requires whole { length bytes.now ≤ len_in (objects_of (state_in evac.old)) pointer }
-    requires most { length bytes.now ≤ LONGEST }
-    ensures settled { Settled (state_in evac.new) }
-    ensures filled { objects_of (state_in evac.new) ≡ with_written pointer 0 bytes.now (objects_of (state_in evac.old)) }
-{
-    overwrite_cold(evac, pointer, 0, bytes);
+    place_filled(evac, pointer, bytes.len() as u16, bytes, structure)
 }

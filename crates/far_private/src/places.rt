@@ -1,12 +1,11 @@
 //! Objects come and go.
 
-ghost use Rattle.std.specs.Prelude.{◌≡◌, ◌≢◌, ◌≤◌, ◌<◌, ◌/◌, ℕ, true, false, None, IfOk, IfErr, OnErr, OnOk, MatchOption};
+ghost use Rattle.std.specs.Prelude.{◌≡◌, ◌≢◌, ◌≤◌, ◌<◌, ◌/◌, ℕ, true, false, length, None, IfOk, IfErr, OnErr, MatchOption};
 ghost use Rattle.far_word.specs.declared.sizes.TheConstants.{CELLS, LONGEST};
 ghost use Rattle.far_word.specs.Sizes.{size_of};
 ghost use Rattle.far_core.specs.state.Room.{room};
 ghost use Rattle.far_private.specs.Causes.{IsStuck, IsWant};
-ghost use Rattle.far_private.specs.Looks.{IsFresh};
-ghost use Rattle.far_private.specs.Objects.{IsFree, IsFull, Settled, objects_of, state_in, with_new, without};
+ghost use Rattle.far_private.specs.Objects.{IsFree, IsFull, Settled, objects_of, state_in, with_filled, with_new, without};
 ghost use Rattle.far_private.specs.FreePointers.{IsKept};
 
 use crate::budget::Rounds;
@@ -31,6 +30,7 @@ pub(crate) fn free_pointer<D: Device + Drop>(
 }
 
 /// Places a new object of zeros, making rounds where there is no room for it.
+#[inline(always)]
 pub(crate) fn place_new<D: Device + Drop>(
     evac: &mut Evac<Plain, D>,
     pointer: u16,
@@ -45,15 +45,64 @@ pub(crate) fn place_new<D: Device + Drop>(
     ensures settled { Settled (state_in evac.new) }
     ensures made { IfOk result (λ _. objects_of (state_in evac.new) ≡ with_new pointer len structure (objects_of (state_in evac.old))) }
     ensures refused { OnErr result (objects_of (state_in evac.new) ≡ objects_of (state_in evac.old)) }
-    ensures fresh { OnOk result (IsFresh (state_in evac.new) pointer) }
     ensures why { IfErr result (λ why. IsWant why) }
     ensures stuck { IfErr result (λ why. IsStuck D D.writes (state_in evac.old) why) }
-    ensures none { OnErr result (room (state_in evac.new) (size_of len) true ≡ None) }
+{
+    place_filled(evac, pointer, len, &[], structure)
+}
+
+/// Places a new object whose first bytes are given, and the others 0, making rounds where there is no room for it.
+#[inline(always)]
+pub(crate) fn place_filled<D: Device + Drop>(
+    evac: &mut Evac<Plain, D>,
+    pointer: u16,
+    len: u16,
+    bytes: &[u8],
+    structure: u8,
+) -> Result<(), Refused>
+    requires settled { Settled (state_in evac.old) }
+    requires free { (state_in evac.old).cell pointer ≡ 0 }
+    requires pointer { pointer < 2048 }
+    requires some { 0 < len }
+    requires most { len ≤ LONGEST }
+    requires front { length bytes.now ≤ len }
+    ensures settled { Settled (state_in evac.new) }
+    ensures made { IfOk result (λ _. objects_of (state_in evac.new) ≡ with_filled pointer len structure bytes.now (objects_of (state_in evac.old))) }
+    ensures refused { OnErr result (objects_of (state_in evac.new) ≡ objects_of (state_in evac.old)) }
+    ensures why { IfErr result (λ why. IsWant why) }
+    ensures stuck { IfErr result (λ why. IsStuck D D.writes (state_in evac.old) why) }
+{
+    if place_now(evac, pointer, len, bytes, structure) {
+        return Ok(());
+    }
+    place_by_rounds(evac, pointer, len, bytes, structure)
+}
+
+// The same, where there may be no room yet.
+#[inline(never)]
+fn place_by_rounds<D: Device + Drop>(
+    evac: &mut Evac<Plain, D>,
+    pointer: u16,
+    len: u16,
+    bytes: &[u8],
+    structure: u8,
+) -> Result<(), Refused>
+    requires settled { Settled (state_in evac.old) }
+    requires free { (state_in evac.old).cell pointer ≡ 0 }
+    requires pointer { pointer < 2048 }
+    requires some { 0 < len }
+    requires most { len ≤ LONGEST }
+    requires front { length bytes.now ≤ len }
+    ensures settled { Settled (state_in evac.new) }
+    ensures made { IfOk result (λ _. objects_of (state_in evac.new) ≡ with_filled pointer len structure bytes.now (objects_of (state_in evac.old))) }
+    ensures refused { OnErr result (objects_of (state_in evac.new) ≡ objects_of (state_in evac.old)) }
+    ensures why { IfErr result (λ why. IsWant why) }
+    ensures stuck { IfErr result (λ why. IsStuck D D.writes (state_in evac.old) why) }
 {
     let mut rounds = Rounds::new(evac);
-    while !place_now(evac, pointer, len, structure) {
+    while !place_now(evac, pointer, len, bytes, structure) {
         if !rounds.make(evac) {
-            return place_last(evac, pointer, len, structure);
+            return place_last(evac, pointer, len, bytes, structure);
         }
     }
     Ok(())
@@ -64,6 +113,7 @@ fn place_last<D: Device + Drop>(
     evac: &mut Evac<Plain, D>,
     pointer: u16,
     len: u16,
+    bytes: &[u8],
     structure: u8,
 ) -> Result<(), Refused>
     requires settled { Settled (state_in evac.old) }
@@ -71,26 +121,27 @@ fn place_last<D: Device + Drop>(
     requires pointer { pointer < 2048 }
     requires some { 0 < len }
     requires most { len ≤ LONGEST }
+    requires front { length bytes.now ≤ len }
     ensures settled { Settled (state_in evac.new) }
-    ensures made { IfOk result (λ _. objects_of (state_in evac.new) ≡ with_new pointer len structure (objects_of (state_in evac.old))) }
+    ensures made { IfOk result (λ _. objects_of (state_in evac.new) ≡ with_filled pointer len structure bytes.now (objects_of (state_in evac.old))) }
     ensures refused { OnErr result (objects_of (state_in evac.new) ≡ objects_of (state_in evac.old)) }
-    ensures fresh { OnOk result (IsFresh (state_in evac.new) pointer) }
     ensures why { IfErr result (λ why. IsWant why) }
     ensures stuck { IfErr result (λ why. IsStuck D D.writes (state_in evac.old) why) }
-    ensures none { OnErr result (room (state_in evac.new) (size_of len) true ≡ None) }
 {
     let made = last_round(evac);
-    if place_now(evac, pointer, len, structure) {
+    if place_now(evac, pointer, len, bytes, structure) {
         return Ok(());
     }
     Err(told(Refused::NoRoom, made))
 }
 
-// Places a new object of zeros, if there is room.
+// Places a new object whose first bytes are given, if there is room.
+#[inline(always)]
 fn place_now<D: Device + Drop>(
     evac: &mut Evac<Plain, D>,
     pointer: u16,
     len: u16,
+    bytes: &[u8],
     structure: u8,
 ) -> bool
     requires settled { Settled (state_in evac.old) }
@@ -98,18 +149,15 @@ fn place_now<D: Device + Drop>(
     requires pointer { pointer < 2048 }
     requires some { 0 < len }
     requires most { len ≤ LONGEST }
+    requires front { length bytes.now ≤ len }
     ensures settled { result ≡ true → Settled (state_in evac.new) }
-    ensures made { result ≡ true → objects_of (state_in evac.new) ≡ with_new pointer len structure (objects_of (state_in evac.old)) }
-    ensures fresh { result ≡ true → IsFresh (state_in evac.new) pointer }
+    ensures made { result ≡ true → objects_of (state_in evac.new) ≡ with_filled pointer len structure bytes.now (objects_of (state_in evac.old)) }
     ensures refused { result ≡ false → state_in evac.new ≡ state_in evac.old }
     ensures none { result ≡ false → room (state_in evac.new) (size_of len) true ≡ None }
 {
-    match evac.place(pointer, len, structure) {
-        Ok(_) => {
-            let owner = (pointer / CELLS) as u8;
-            evac.adopt(owner, pointer);
-            true
-        }
+    let owner = (pointer / CELLS) as u8;
+    match evac.place_with(owner, pointer, len, structure, bytes) {
+        Ok(_) => true,
         Err(_) => false,
     }
 }

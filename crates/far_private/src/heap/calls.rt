@@ -29,6 +29,7 @@ impl<D: Device + Drop> PrivateHeap<D> {
     ///
     /// Refused, in this order: [`Refused::Length`] unless they are 1 to 4,088, [`Refused::NoPointer`] where each of the 2,048 pointers has an
     /// object, and [`Refused::NoRoom`] where no log has room after so many rounds. Nothing has changed then.
+    #[inline(always)]
     pub fn alloc_with(&mut self, bytes: &[u8], structure: u8) -> Result<u16, Refused>
         ensures made { IfOk result (λ p. (p < POINTERS) × (object self.old p ≡ None) × (self.new ≡ with_made p structure bytes.now self.old)) }
         ensures object { IfOk result (λ p. object self.new p ≡ Some (object_with self.old.honest structure bytes.now)) }
@@ -107,7 +108,7 @@ impl<D: Device + Drop> PrivateHeap<D> {
     pub fn make_room<P: Policy>(&mut self, policy: &mut P, most: usize) -> Result<usize, Refused>
         ensures same { self.new ≡ self.old }
         ensures few { IfOk result (λ freed. freed ≤ most) }
-        ensures named { IfOk result (λ _. (rows : List LogRow) × (logs : List ℕ) × P.gives policy.old rows most (Ok logs) policy.new) }
+        ensures named { IfOk result (λ freed. (rows : List LogRow) × (logs : List ℕ) × P.gives policy.old rows most (Ok logs) policy.new × (freed ≤ length logs)) }
         ensures refused { IfErr result (λ why. IsNoRound P.gives policy.old policy.new most why) }
     {
         free_logs(&mut self.evac, policy, most)
@@ -118,6 +119,7 @@ impl<D: Device + Drop> PrivateHeap<D> {
         ensures objects { result.near + result.far ≡ length (filter is_some self.now.objects) }
         ensures far { AreFar self.now result.far result.far_bytes result.live }
         ensures bytes { result.live + result.dead + result.unused ≡ 4096 * self.now.logs }
+        ensures spared { result.writes_spared ≤ result.evictions }
         ensures rounds { result.rounds < 2 ^ 62 }
     {
         tell(&self.evac)

@@ -80,6 +80,9 @@ const READ_AGAIN: &str =
 const MOVED: &str =
     "new 0 8; has 0 0 8; has 0 0 8; many 1 4088; round 1 1; tell 4 2 0 0 0 0 0 0 1;";
 
+// A call makes a round for the third of these. The one that was used moves in it, and the first of the three leaves.
+const KEPT_IN_USE: &str = "new 0 8; has 0 0 8; has 0 0 8; many 3 4088; tell 4 4 1 0 1 0 0 4088 1;";
+
 // It leaves again, with one that the device doesn't have yet, and isn't written, since the device has its bytes.
 const SPARED: &str = "many 1 4088; round 64 1; tell 4 3 2 1 3 1 0 4096;";
 
@@ -108,6 +111,7 @@ const PLAYS: &[Play] = &[
     Play { name: "a_fetch_is_counted_once", parts: &[COUNTED, READ_AGAIN], ..FOUR_LOGS },
     Play { name: "a_write_that_is_spared_is_counted", parts: &[COUNTED, SPARED], ..FOUR_LOGS },
     Play { name: "a_used_object_moves", parts: &[MOVED], ..FOUR_LOGS },
+    Play { name: "a_call_moves_what_is_used", parts: &[KEPT_IN_USE], ..FOUR_LOGS },
     Play { name: "an_unused_object_leaves", parts: &[UNUSED, BROUGHT], ..FOUR_LOGS },
     Play { name: "faults_are_counted", flaw: Flaw::Fails, at: 1, parts: &[FAULTS], ..FOUR_LOGS },
     Play { name: "one_failure_leaves_room", flaw: Flaw::Fails, at: 1, parts: &[PASSES], ..FOUR_LOGS },

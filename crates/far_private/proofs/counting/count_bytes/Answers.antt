@@ -1,4 +1,4 @@
-use Rattle.std.proofs.Common.{◌≡◌, ◌+◌, ◌*◌, ◌∙◌, ap, arith, subst}
+use Rattle.std.proofs.Common.{◌≡◌, ◌∙◌, ap, arith, subst}
 use Rattle.std.specs.Prelude.{map, sum}
 use Rattle.std.specs.List.{range_with_len}
 use Rattle.far_core.specs.declared.machine.Core.{Core}

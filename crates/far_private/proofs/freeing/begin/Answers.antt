@@ -8,7 +8,7 @@ pub returns-in-Ok : goal.returns-in-Ok
 returns-in-Ok g c = record {
   keeps = selects c.args.evac.now c.select.new.self _ c.in-Ok.ensures.begun;
   few = omega (arith, c.in-Ok.ensures.chosen.few, c.len.ensures);
-  named = (_, _, c.in-Ok.ensures.gives);
+  named = (_, _, c.in-Ok.ensures.gives, omega (arith, c.len.ensures));
   refused = tt;
 }
 

@@ -2,7 +2,7 @@ use Rattle.std.proofs.Common.{◌∙◌}
 use Rattle.far_word.specs.Pointer.{read_of}
 use Rattle.far_private.specs.Objects.{state_in}
 use Rattle.far_private.proofs.Coming.{near_inside, near_quiet, near_told}
-use Rattle.far_private.proofs.Cooling.{cool_near, cools, cools_order, cools_somewhere}
+use Rattle.far_private.proofs.Cooling.{cool_near, cools, cools_order}
 use Rattle.far_private.proofs.Resting.{ask_legal}
 use Rattle.far_private.proofs.last.calm.Goals as goal
 

@@ -1,5 +1,3 @@
-use Rattle.far_evac.specs.EvacOf.{moment_alone}
-use Rattle.far_evac.specs.Waiting.{after_polling}
 use Rattle.far_private.proofs.LastSteps.{poll_told, polls_cells, polls_held, polls_keeps, polls_logs, polls_phase}
 use Rattle.far_private.proofs.last.poll_all.Goals as goal
 

@@ -1,8 +1,8 @@
-use Rattle.std.proofs.Common.{◌∙◌, ap, sym}
+use Rattle.std.proofs.Common.{◌∙◌, sym}
 use Rattle.far_evac.specs.EvacOf.{moment_alone}
 use Rattle.far_private.specs.Objects.{state_in}
 use Rattle.far_private.proofs.Keeping.{keeps_both, settled_on}
-use Rattle.far_private.proofs.LastCalls.{chosen_cold, chosen_core, chosen_marks, cold_cells, none_chosen, none_room, ok_map, oldest_are, oldest_spent, some_chosen, some_room, spent_stuck, spent_want}
+use Rattle.far_private.proofs.LastCalls.{chosen_cold, chosen_marks, cold_cells, none_chosen, none_room, ok_map, oldest_are, oldest_spent, some_chosen, some_room, spent_stuck, spent_want}
 use Rattle.far_private.proofs.LastRounds.{same_more}
 use Rattle.far_private.proofs.Rounds.{selects, unchanged}
 use Rattle.far_private.proofs.Stuck.{stuck_err}

@@ -1,13 +1,8 @@
-use Rattle.std.proofs.Common.{arith}
-use Rattle.far_private.specs.Objects.{objects_of, state_in}
-use Rattle.far_private.proofs.NewBytes.{made_from, made_inside}
+use Rattle.std.proofs.Common.{subst}
+use Rattle.std.specs.Prelude.{IfOk, ◌≡◌}
+use Rattle.far_private.specs.Objects.{Objects, objects_of, state_in}
+use Rattle.far_private.proofs.NewBytes.{made_is}
 use Rattle.far_private.proofs.making.place_with.Goals as goal
 
-pub fill_new-requires-clause-whole : goal.fill_new-requires-clause-whole
-fill_new-requires-clause-whole g c =
-    made_inside (objects_of (state_in c.args.evac.now)) (objects_of (state_in c.place_new.new.evac)) c.args.pointer c.args.structure _ c.args.bytes.now (omega (arith, c.requires.most)) c.in-Ok.ensures.made
-
-pub returns-in-Ok-clause-made : goal.returns-in-Ok-clause-made
-returns-in-Ok-clause-made g c =
-    made_from (objects_of (state_in c.args.evac.now)) (objects_of (state_in c.place_new.new.evac)) (objects_of (state_in c.fill_new.new.evac)) c.args.pointer c.args.structure _ c.args.bytes.now (omega (arith, c.requires.most)) c.in-Ok.ensures.made
-    c.fill_new.ensures.filled
+pub returns-clause-made : goal.returns-clause-made
+returns-clause-made g c = subst (λ (o : Objects). IfOk c.place_filled.result (λ _. objects_of (state_in c.place_filled.new.evac) ≡ o)) (made_is (objects_of (state_in c.args.evac.now)) c.args.pointer c.args.structure c.args.bytes.now) c.place_filled.ensures.made

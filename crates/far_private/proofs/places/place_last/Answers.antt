@@ -3,7 +3,7 @@ use Rattle.far_word.specs.declared.refused.Refused.TheVariants.{NoRoom}
 use Rattle.far_word.specs.Sizes.{size_of}
 use Rattle.far_core.specs.state.Room.{free_logs}
 use Rattle.far_private.specs.Causes.{IsStuck, IsWant}
-use Rattle.far_private.specs.Objects.{Settled, objects_of, state_in, with_new}
+use Rattle.far_private.specs.Objects.{Settled, objects_of, state_in, with_filled}
 use Rattle.far_private.proofs.Keeping.{settled_on}
 use Rattle.far_private.proofs.LastCalls.{ok_map}
 use Rattle.far_private.proofs.Stuck.{told_stuck, told_want}
@@ -19,12 +19,10 @@ place_now-requires-clause-free g c = c.last_round-made.ensures.keeps.named c.arg
 pub returns-then-place_now : goal.returns-then-place_now
 returns-then-place_now g c = record {
   settled = c.place_now.ensures.settled c.if-place_now.true;
-  made = c.place_now.ensures.made c.if-place_now.true ∙ ap (with_new c.args.pointer c.args.len c.args.structure) c.last_round-made.ensures.keeps.objects;
+  made = c.place_now.ensures.made c.if-place_now.true ∙ ap (with_filled c.args.pointer c.args.len c.args.structure c.args.bytes.now) c.last_round-made.ensures.keeps.objects;
   refused = tt;
-  fresh = c.place_now.ensures.fresh c.if-place_now.true;
   why = tt;
   stuck = tt;
-  none = tt;
 }
 
 pub returns : goal.returns
@@ -38,8 +36,6 @@ returns g c =
       settled = subst Settled (sym same) (settled_on s t c.requires.settled c.last_round-made.ensures.keeps);
       made = tt;
       refused = ap objects_of same ∙ c.last_round-made.ensures.keeps.objects;
-      fresh = tt;
       why = subst IsWant (sym c.told.ensures) (told_want c.last_round-made.result (ok_map c.last_round-made.result never c.last_round-made.ensures.room) c.last_round-made.ensures.want);
       stuck = subst (IsStuck _ g.D.Device.writes s) (sym c.told.ensures) (told_stuck g.D.Device.writes s NoRoom c.last_round-made.result (ok_map c.last_round-made.result (λ two e. never two) c.last_round-made.ensures.room) c.last_round-made.ensures.stuck);
-      none = none;
     }
