@@ -1,13 +1,19 @@
 -- Folds, block by block.
-use Rattle.std.proofs.Common.{◌≡◌, ℕ, ◌+◌, ◌*◌, ◌<◌, ◌≤◌, List, [], ◌∷◌, ◌++◌, length, take, drop, get_or, map, sym, ◌∙◌, ap, subst, arith}
+use Rattle.std.proofs.Common.{◌≡◌, ℕ, ◌+◌, ◌-◌, ◌*◌, ◌/◌, ◌%◌, ◌<◌, ◌≤◌, min, Option, Some, None, List, [], ◌∷◌, ◌++◌, length, take, drop, get_or, map, sym, ◌∙◌, ap, subst, inl, inr, arith}
 use Rattle.std.specs.List.{FoldsTo}
 use Rattle.std.proofs.lemmas.List.{same_lists, length-take, length-drop, get_or-take, get_or-drop, length-map, get_or-map}
 use Rattle.std.proofs.lemmas.List.FromFn.{length-map-range_with_len, get_or-map-range_with_len}
 use Rattle.std.proofs.Math.Seq.{take-add}
+use Rattle.std.specs.Prelude.{nat_lt, if◌then◌else◌}
 use Rattle.std.proofs.lemmas.Nat.{le-div}
+use Rattle.std.proofs.lemmas.Bool.{cases_lt}
+use Rattle.std.proofs.lemmas.Bool.Decides.{nat_tests}
+use Rattle.far_word.specs.declared.refused.Refused.{Refused}
+use Rattle.far_word.specs.declared.refused.Refused.TheVariants.{Length, Range}
 use Rattle.far_objects.specs.declared.objects.TheConstants.{MOST}
+use Rattle.far_array.specs.Reasons.{barred_many}
 use Rattle.far_array.specs.Rows.{Rows, many_at, per_block}
-use Rattle.far_array.specs.Listed.{values_in}
+use Rattle.far_array.specs.Listed.{many_from, values_in}
 use Rattle.far_array.proofs.Sizes.{many_low}
 
 pub folds_on : {P A : Type 0} (R : P → A → P → Type 0) (p : P) (xs ys : List A) (q r : P) → FoldsTo R p xs q → FoldsTo R q ys r → FoldsTo R p (xs ++ ys) r
@@ -42,3 +48,24 @@ many_facts r i m n some fits most low e =
     let per : 1 ≤ per_block r.size = le-div 1 MOST r.size some (omega arith) in
     let facts = many_low m r.size (length r.items) i (per_block r.size) n some (omega (arith, per)) low fits e in
     (facts.0, facts.1, facts.3)
+
+less_min : (p x q : ℕ) → min (min p x) (p - q) ≡ min x (p - q)
+less_min p x q = omega arith
+
+-- into as many bytes as an object has, all that stand in it are read
+pub all_from : (r : Rows) (i m n : ℕ) → m ≡ MOST → n ≡ many_at r i m → n ≡ many_from r.size (length r.items) i
+all_from r i m n full e =
+    e ∙ ap (λ k. min (min (k / r.size) (length r.items - i)) (per_block r.size - i % per_block r.size)) full ∙ less_min (per_block r.size) (length r.items - i) (i % per_block r.size)
+
+beyond_all : (len size i m : ℕ) → len ≤ i → ◌≡◌ {A = Option Refused} (if nat_lt i len then (if nat_lt m size then Some Length else None) else Some Range) (Some Range)
+beyond_all len size i m e = grind (arith, nat_tests)
+
+none_range : (o : Option Refused) → o ≡ None → o ≡ Some Range → ⊥
+none_range o e f = cc
+
+-- what may be read has a first one
+pub first_there : (r : Rows) (i m : ℕ) → barred_many r i m ≡ None → i < length r.items
+first_there r i m e = elim (cases_lt i (length r.items)) [
+  | inl low ↦ low
+  | inr past ↦ absurd (none_range (barred_many r i m) e (beyond_all (length r.items) r.size i m past))
+]

@@ -36,6 +36,13 @@ IsWhyMissed unreached NotHeld = ⊥
 IsWhyMissed unreached Range = ⊥
 IsWhyMissed unreached why = unreached why
 
+-- values aren't given: there is no memory for them, or their object wasn't reached
+abbrev pub IsWhyNotGiven : (Refused → Type 0) → Refused → Type 0
+IsWhyNotGiven unreached Memory = Unit {0}
+IsWhyNotGiven unreached NotHeld = ⊥
+IsWhyNotGiven unreached Range = ⊥
+IsWhyNotGiven unreached why = unreached why
+
 -- no block was made: there is no memory for the list of blocks, or no object
 abbrev pub IsWhyUnplaced : (Refused → Type 0) → Refused → Type 0
 IsWhyUnplaced unmade Memory = Unit {0}

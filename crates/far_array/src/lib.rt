@@ -5,6 +5,7 @@ mod array;
 mod blocks;
 mod folds;
 mod parts;
+mod reads;
 mod record;
 mod rows;
 mod steps;

@@ -1,14 +1,15 @@
 //! An array of values.
 
-ghost use Rattle.std.specs.Prelude.{◌≡◌, ◌<◌, ◌≤◌, ◌*◌, ◌-◌, ◌+◌, ◌++◌, ◌∷◌, true, Some, None, IfOk, IfErr, OnOk, OnErr, [], length, map, slice_set, slice_index_or, take, nat_lt, ◌==◌, if◌then◌else◌};
+ghost use Rattle.std.specs.Prelude.{◌≡◌, ◌<◌, ◌≤◌, ◌*◌, ◌-◌, ◌+◌, ◌++◌, ◌∷◌, true, Some, None, IfOk, IfErr, OnOk, OnErr, [], length, map, slice_set, slice_index_or, take, drop, nat_lt, ◌==◌, if◌then◌else◌};
 ghost use Rattle.std.specs.List.{FoldsTo, slice_get, swap};
 ghost use Rattle.far_word.specs.declared.refused.Refused.TheVariants.{Memory};
-ghost use Rattle.far_array.specs.Listed.{beyond, beyond_two};
-ghost use Rattle.far_array.specs.Reasons.{IsWhy, IsWhyMissed, IsWhyUnput, IsWhyUnswapped, barred_at, wrong_size};
+ghost use Rattle.far_array.specs.Listed.{beyond, beyond_two, many_from};
+ghost use Rattle.far_array.specs.Reasons.{IsWhy, IsWhyMissed, IsWhyNotGiven, IsWhyUnput, IsWhyUnswapped, barred_at, wrong_size};
 ghost use Rattle.far_array.specs.Rows.{has_room, per_block};
 
 use crate::array::Array;
 use crate::folds::fold_values;
+use crate::reads::read_values;
 use crate::record::Record;
 use far_objects::Objects;
 use far_word::Refused;
@@ -187,6 +188,22 @@ impl<T: Record + Drop, O: Objects + Drop> ArrayOf<T, O> {
         ensures why { IfErr result (IsWhy (beyond i (length self.old.items)) (IsWhyMissed (O.unreached self.old.honest))) }
     {
         get_value(&mut self.held, i)
+    }
+
+    /// Reads values to `out`, which is emptied first, from value i on, in one read: all to the end of their object. So a loop that goes on by
+    /// `out.len()` sees each value once, by one read an object.
+    ///
+    /// Refused, in this order: [`Refused::Range`] exactly where there is no value i; as the worker says of an object that it didn't reach;
+    /// [`Refused::Memory`] where `out` has no room and can't grow. `out` is empty then.
+    pub fn get_many(&mut self, i: usize, out: &mut Vec<T>) -> Result<(), Refused>
+        ensures same { self.new ≡ self.old }
+        ensures many { OnOk result (length out.new.items ≡ many_from T.SIZE (length self.old.items) i) }
+        ensures got { self.old.honest ≡ true → OnOk result (out.new.items ≡ take (many_from T.SIZE (length self.old.items) i) (drop i self.old.items)) }
+        ensures done { OnOk result (beyond i (length self.old.items) ≡ None) }
+        ensures empty { OnErr result (out.new.items ≡ []) }
+        ensures why { IfErr result (IsWhy (beyond i (length self.old.items)) (IsWhyNotGiven (O.unreached self.old.honest))) }
+    {
+        read_values(&mut self.held.rows, i, out)
     }
 
     /// Folds the values in their order, one read a block.

@@ -78,6 +78,26 @@ fn told(alloc: Global, count: u64) -> Result<u64, Refused> {
     array.fold(7u64, step)
 }
 
+// The same by reads of whole blocks, until there is none: at most three.
+fn told_by_blocks(alloc: Global, count: u64) -> Result<u64, Refused> {
+    let mut array = numbers(alloc, 0, count)?;
+    let mut values = Vec::new(alloc);
+    let mut told = 7u64;
+    let mut i = 0usize;
+    for _ in 0..4 {
+        match array.get_many(i, &mut values) {
+            Ok(()) => {}
+            Err(Refused::Range) if i == array.len() => return Ok(told),
+            Err(why) => return Err(why),
+        }
+        for value in &values {
+            told = step(told, *value);
+        }
+        i = i.saturating_add(values.len());
+    }
+    Err(Refused::Range)
+}
+
 fn wanted(count: u64) -> u64 {
     let mut told = 7u64;
     for value in 0..count {
@@ -92,6 +112,17 @@ fn a_fold_takes_all_in_order(rt: HostRuntime) {
         let mut sum = told(rt.alloc(), count);
         if sum == Err(Refused::Memory) {
             sum = told(rt.alloc(), count);
+        }
+        assert!(rt; sum == Ok(wanted(count)), "{count}");
+    }
+}
+
+#[test]
+fn blocks_have_all_in_order(rt: HostRuntime) {
+    for count in [0u64, 1, 510, 511, 512, 1_022, 1_023] {
+        let mut sum = told_by_blocks(rt.alloc(), count);
+        if sum == Err(Refused::Memory) {
+            sum = told_by_blocks(rt.alloc(), count);
         }
         assert!(rt; sum == Ok(wanted(count)), "{count}");
     }
