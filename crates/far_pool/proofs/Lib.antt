@@ -3,6 +3,7 @@ mod Counts
 mod Growing
 mod Histories
 mod Numbering
+mod Rooms
 mod Shelves
 mod Wholes
 mod Workers

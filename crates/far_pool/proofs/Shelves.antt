@@ -50,12 +50,12 @@ pub at_stale : (w : Pool) (h k : Handle) → generation_in w h ≡ h.generation 
 at_stale w h k now ne e f = found_stale (shelf_in w k.heap) k.pointer k.generation (λ x. ne (same_handle k h e f (sym x ∙ (λ i. generation_on (shelf_in w (e i)) (f i)) ∙ now)))
 
 -- ---- one shelf of all is another
-module _ (b : Bool) (shelves : List Shelf) (k : ℕ) (n : Shelf) (lt : k < length shelves) where
+module _ (b : Bool) (l : ℕ) (shelves : List Shelf) (k : ℕ) (n : Shelf) (lt : k < length shelves) where
   abbrev old : Pool
-  old = record { honest = b; shelves = shelves }
+  old = record { honest = b; logs = l; shelves = shelves }
 
   abbrev new : Pool
-  new = record { honest = b; shelves = slice_set shelves k n }
+  new = record { honest = b; logs = l; shelves = slice_set shelves k n }
 
   pub shelf_here : shelf_in new k ≡ n
   shelf_here = get_or-set_same shelves k n no_shelf lt
@@ -99,7 +99,7 @@ module _ (b : Bool) (shelves : List Shelf) (k : ℕ) (n : Shelf) (lt : k < lengt
       ]
 
       pub puts : Changes h o old new
-      puts = record { here = put_here; others = put_others; honest = refl }
+      puts = record { here = put_here; others = put_others; honest = refl; logs = refl }
 
       pub puts_same : SameGenerations old new
       puts_same = put_generation
@@ -130,7 +130,7 @@ module _ (b : Bool) (shelves : List Shelf) (k : ℕ) (n : Shelf) (lt : k < lengt
       ]
 
       pub drops : Changes h None old new
-      drops = record { here = gone h at_k refl; others = drop_others; honest = refl }
+      drops = record { here = gone h at_k refl; others = drop_others; honest = refl; logs = refl }
 
       pub drops_next : NextGeneration h old new
       drops_next = record {

@@ -3,5 +3,6 @@ pub mod Generations
 pub mod History
 pub mod Plans
 pub mod Pool
+pub mod Rooms
 pub mod Statistics
 pub mod Numbers

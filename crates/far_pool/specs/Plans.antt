@@ -24,6 +24,8 @@ pub record IsLaid (p : Plan) (l : Layout) : Type 0 where
   pub objects : p.objects ≤ l.heaps * POINTERS
   pub near : l.heaps * l.logs * LOG ≤ p.near
   pub least : least_logs p.typical ≤ l.logs
+  -- one is open, one is for rounds, and one can be emptied
+  pub three : 3 ≤ l.logs
   pub most : l.logs ≤ MOST_LOGS
   pub heaps : 0 < l.heaps
   -- a log more for each heap would be too much, or a heap has as many as it may, and one more would be too much

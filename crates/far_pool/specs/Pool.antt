@@ -8,19 +8,21 @@ use Rattle.far_private.specs.Heap.{IsOutside, is_length}
 use Rattle.far_private.specs.Objects.{Object, bytes_of, len_of, rewritten}
 use Rattle.far_pool.specs.declared.handle.Handle.{Handle}
 
--- a heap: whether its far side is honest, and of each pointer the object, none where it is free, and how often one was dropped, up to 65,535 and then from 0 on
+-- a heap: whether its far side is honest, of how many logs it is, and of each pointer the object, none where it is free, and how often one was dropped, up to 65,535 and then from 0 on
 pub record Shelf : Type 0 where
   pub honest : Bool
+  pub logs : ℕ
   pub objects : List (Option Object)
   pub generations : List ℕ
 
--- a worker: whether the far sides of all its heaps are honest, and its heaps
+-- a worker: whether the far sides of all its heaps are honest, of how many logs each heap is, and its heaps
 pub record Pool : Type 0 where
   pub honest : Bool
+  pub logs : ℕ
   pub shelves : List Shelf
 
 abbrev pub no_shelf : Shelf
-no_shelf = record { honest = true; objects = []; generations = [] }
+no_shelf = record { honest = true; logs = 0; objects = []; generations = [] }
 
 -- ---- on one shelf, by pointer and generation
 abbrev pub generation_on : Shelf → ℕ → ℕ
@@ -70,6 +72,7 @@ OnePointer h k = (k.heap ≡ h.heap) × (k.pointer ≡ h.pointer)
 -- all objects and generations are as before; there may be more heaps
 pub record Same (w v : Pool) : Type 0 where
   pub honest : v.honest ≡ w.honest
+  pub logs : v.logs ≡ w.logs
   pub all : (k : Handle) → at v k ≡ at w k
   pub generations : (k : Handle) → generation_in v k ≡ generation_in w k
 
@@ -78,6 +81,7 @@ pub record Changes (h : Handle) (o : Option Object) (w v : Pool) : Type 0 where
   pub here : at v h ≡ o
   pub others : (k : Handle) → k ≢ h → at v k ≡ at w k
   pub honest : v.honest ≡ w.honest
+  pub logs : v.logs ≡ w.logs
 
 -- what a call does to generations: nothing, or the pointer of a handle has the next one
 abbrev pub SameGenerations : Pool → Pool → Type 0
@@ -130,9 +134,13 @@ IsWhyNone len NoRoom = is_length len ≡ true
 IsWhyNone len EpochsSpent = is_length len ≡ true
 IsWhyNone len why = ⊥
 
--- ---- what is true of each worker: all heaps are as honest as it is
-abbrev pub AreAlike : Bool → List Shelf → Type 0
-AreAlike honest shelves = (k : ℕ) → k < length shelves → (slice_index_or shelves k no_shelf).honest ≡ honest
+-- ---- what is true of each worker: all heaps are as honest as it is, and of as many logs as it has
+pub record IsAlike (b : Bool) (l : ℕ) (s : Shelf) : Type 0 where
+  pub honest : s.honest ≡ b
+  pub logs : s.logs ≡ l
+
+abbrev pub AreAlike : Bool → ℕ → List Shelf → Type 0
+AreAlike honest logs shelves = (k : ℕ) → k < length shelves → IsAlike honest logs (slice_index_or shelves k no_shelf)
 
 -- ---- all objects
 -- how many a heap has

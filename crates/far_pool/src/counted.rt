@@ -1,13 +1,14 @@
 //! A heap, with how often each of its pointers was given up.
 
-ghost use Rattle.std.specs.Prelude.{◌≡◌, ◌<◌, ◌≤◌, ◌+◌, ℕ, List, true, false, None, Some, Err, is_some, filter, IfNone, IfOk, IfErr, IfSome, OnErr, OnOk, length, slice_range, vec_len, []};
+ghost use Rattle.std.specs.Prelude.{◌≡◌, ◌≢◌, ◌<◌, ◌≤◌, ◌+◌, ℕ, List, true, false, None, Some, Err, is_some, filter, IfNone, IfOk, IfErr, IfSome, OnErr, OnOk, length, slice_range, vec_len, []};
 ghost use Rattle.std.specs.Fn.{FnOnceReturnsAtMut, FnOnceTakesAtMut};
 ghost use Rattle.std.specs.Option.{option_map};
 ghost use Rattle.far_word.specs.declared.refused.Refused.{Refused as Refusal};
-ghost use Rattle.far_word.specs.declared.refused.Refused.TheVariants.{NotHeld};
+ghost use Rattle.far_word.specs.declared.refused.Refused.TheVariants.{Memory, NoRoom, NotHeld};
 ghost use Rattle.far_word.specs.declared.sizes.TheConstants.{POINTERS};
+ghost use Rattle.far_private.specs.Causes.{IsNotGiven, IsNotTaken};
 ghost use Rattle.far_private.specs.Heap.{IsWell, IsWhyNoAccess, is_length, new_object, object, object_with, size_of, structure_of};
-ghost use Rattle.far_private.specs.Objects.{bytes_of, rewritten};
+ghost use Rattle.far_private.specs.Objects.{bytes_of, len_of, rewritten};
 ghost use Rattle.far_pool.specs.Pool.{IsWhyNone, IsWhyNotWhole, UpdatesOn, dropping, found, generation_on, object_on, putting, refusal_of};
 
 use far_device::Device;
@@ -31,7 +32,7 @@ impl<D: Device + Drop> Model for Counted<D> {
 
     ghost Value = { Shelf };
 
-    ghost view = { λ c. record { honest = c.heap.honest; objects = c.heap.objects; generations = c.generations.items } };
+    ghost view = { λ c. record { honest = c.heap.honest; logs = c.heap.logs; objects = c.heap.objects; generations = c.generations.items } };
 
     ghost invariant = { λ c. length c.generations.items ≡ POINTERS };
 }
@@ -43,6 +44,7 @@ impl<D: Device + Drop> Counted<D> {
         ensures empty { IfOk result (λ c. (p : ℕ) → object_on c p ≡ None) }
         ensures zero { IfOk result (λ c. (p : ℕ) → generation_on c p ≡ 0) }
         ensures honest { IfOk result (λ c. c.honest ≡ heap.honest) }
+        ensures logs { IfOk result (λ c. c.logs ≡ heap.logs) }
     {
         let Ok(generations) = vec![in alloc; 0u16; POINTERS as usize] else {
             return Err(Refused::Memory);
@@ -93,6 +95,7 @@ impl<D: Device + Drop> Counted<D> {
         ensures done { OnOk result (is_length len ≡ true) }
         ensures refused { OnErr result (self.new ≡ self.old) }
         ensures why { IfErr result (λ why. IsWhyNone len why) }
+        ensures room { result ≡ Err NoRoom → 3 ≤ self.old.logs → IsNotTaken D D.writes (object_on self.old) }
     {
         self.heap.keeps_law();
         match self.heap.alloc(len, structure) {
@@ -111,6 +114,7 @@ impl<D: Device + Drop> Counted<D> {
         ensures done { OnOk result (is_length (length bytes.now) ≡ true) }
         ensures refused { OnErr result (self.new ≡ self.old) }
         ensures why { IfErr result (λ why. IsWhyNone (length bytes.now) why) }
+        ensures room { result ≡ Err NoRoom → 3 ≤ self.old.logs → IsNotTaken D D.writes (object_on self.old) }
     {
         self.heap.keeps_law();
         match self.heap.alloc_with(bytes, structure) {
@@ -145,6 +149,8 @@ impl<D: Device + Drop> Counted<D> {
         ensures done { OnOk result (refusal_of (object_on self.old pointer) from (length out.old) ≡ None) }
         ensures barred { (why : Refusal) → refusal_of (object_on self.old pointer) from (length out.old) ≡ Some why → result ≡ Err why }
         ensures why { IfErr result (λ why. IsWhyNoAccess self.old.honest (refusal_of (object_on self.old pointer) from (length out.old)) why) }
+        ensures room { result ≡ Err NoRoom → 3 ≤ self.old.logs → IsNotTaken D D.writes (object_on self.old) }
+        ensures given { IfErr result (λ why. IsNotGiven D D.reads pointer (len_of (object_on self.old pointer)) why) }
     {
         self.heap.read(pointer, from, out)
     }
@@ -191,6 +197,8 @@ impl<D: Device + Drop> Counted<D> {
         ensures done { OnOk result (refusal_of (found self.old pointer generation) from (length out.old) ≡ None) }
         ensures barred { (why : Refusal) → refusal_of (found self.old pointer generation) from (length out.old) ≡ Some why → result ≡ Err why }
         ensures why { IfErr result (λ why. IsWhyNoAccess self.old.honest (refusal_of (found self.old pointer generation) from (length out.old)) why) }
+        ensures room { result ≡ Err NoRoom → 3 ≤ self.old.logs → IsNotTaken D D.writes (object_on self.old) }
+        ensures given { IfErr result (λ why. IsNotGiven D D.reads pointer (len_of (found self.old pointer generation)) why) }
     {
         if !self.knows(pointer, generation) {
             return Err(Refused::NotHeld);
@@ -211,6 +219,8 @@ impl<D: Device + Drop> Counted<D> {
         ensures refused { OnErr result (out.new.items ≡ []) }
         ensures barred { found self.old pointer generation ≡ None → result ≡ Err NotHeld }
         ensures why { IfErr result (λ why. IsWhyNotWhole self.old.honest (found self.old pointer generation) why) }
+        ensures room { result ≡ Err NoRoom → 3 ≤ self.old.logs → IsNotTaken D D.writes (object_on self.old) }
+        ensures given { IfErr result (λ why. why ≢ Memory → IsNotGiven D D.reads pointer (len_of (found self.old pointer generation)) why) }
     {
         self.keeps_law();
         let Some(len) = self.len_of(pointer, generation) else {
@@ -244,6 +254,8 @@ impl<D: Device + Drop> Counted<D> {
         ensures done { OnOk result (refusal_of (found self.old pointer generation) from (length bytes.now) ≡ None) }
         ensures barred { (why : Refusal) → refusal_of (found self.old pointer generation) from (length bytes.now) ≡ Some why → result ≡ Err why }
         ensures why { IfErr result (λ why. IsWhyNoAccess self.old.honest (refusal_of (found self.old pointer generation) from (length bytes.now)) why) }
+        ensures room { result ≡ Err NoRoom → 3 ≤ self.old.logs → IsNotTaken D D.writes (object_on self.old) }
+        ensures given { IfErr result (λ why. IsNotGiven D D.reads pointer (len_of (found self.old pointer generation)) why) }
     {
         if !self.knows(pointer, generation) {
             return Err(Refused::NotHeld);
@@ -267,6 +279,8 @@ impl<D: Device + Drop> Counted<D> {
         ensures done { OnOk result (refusal_of (found self.old pointer generation) from (length bytes.old) ≡ None) }
         ensures barred { (why : Refusal) → refusal_of (found self.old pointer generation) from (length bytes.old) ≡ Some why → result ≡ Err why }
         ensures why { IfErr result (λ why. IsWhyNoAccess self.old.honest (refusal_of (found self.old pointer generation) from (length bytes.old)) why) }
+        ensures room { result ≡ Err NoRoom → 3 ≤ self.old.logs → IsNotTaken D D.writes (object_on self.old) }
+        ensures given { IfErr result (λ why. IsNotGiven D D.reads pointer (len_of (found self.old pointer generation)) why) }
     {
         if !self.knows(pointer, generation) {
             return Err(Refused::NotHeld);

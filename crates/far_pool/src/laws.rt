@@ -2,6 +2,9 @@
 
 ghost use Rattle.far_pool.specs.Generations.{DroppedStaysRefused};
 ghost use Rattle.far_pool.specs.History.{OthersStay, ReadsGiveLastWrites};
+ghost use Rattle.far_pool.specs.Rooms.{HasRoom};
+
+use far_device::Device;
 
 /// Where the far sides are honest, each byte of a worker's objects is what its own calls said of it last, by handle, over every list of calls.
 pub fn reads_give_last_writes()
@@ -16,4 +19,9 @@ pub fn dropped_stays_refused()
 /// What is under a handle stays, over every list of calls that name others.
 pub fn others_stay()
     ensures { OthersStay }
+{}
+
+/// Where devices take all that they are given, a worker of three logs a heap or more never answers that it has no room.
+pub fn takers_have_room<D: Device + Drop>()
+    ensures { HasRoom D D.writes }
 {}

@@ -12,7 +12,7 @@ mod worker;
 
 pub use devices::{FileDevices, MemDevices};
 pub use handle::Handle;
-pub use laws::{dropped_stays_refused, others_stay, reads_give_last_writes};
+pub use laws::{dropped_stays_refused, others_stay, reads_give_last_writes, takers_have_room};
 pub use maker::MakeDevice;
 pub use plan::{Layout, Plan, Unplanned};
 pub use statistics::WorkerStatistics;

@@ -1,12 +1,14 @@
 //! Heaps that one thread wholly owns, by handles.
 
-ghost use Rattle.std.specs.Prelude.{◌≡◌, ◌<◌, ◌+◌, ◌≤◌, ℕ, List, true, false, None, Some, Err, length, slice_range, IfOk, IfErr, IfSome, OnErr, OnOk, vec_len, []};
+ghost use Rattle.std.specs.Prelude.{◌≡◌, ◌≢◌, ◌<◌, ◌+◌, ◌≤◌, ℕ, List, true, false, None, Some, Err, length, slice_range, IfOk, IfErr, IfSome, OnErr, OnOk, vec_len, []};
 ghost use Rattle.std.specs.Fn.{FnOnceReturnsAtMut, FnOnceTakesAtMut};
 ghost use Rattle.far_word.specs.declared.refused.Refused.{Refused as Refusal};
-ghost use Rattle.far_word.specs.declared.refused.Refused.TheVariants.{Length, NotHeld};
+ghost use Rattle.far_word.specs.declared.refused.Refused.TheVariants.{Length, Memory, NoRoom, NotHeld};
+ghost use Rattle.far_private.specs.Causes.{IsNotGiven};
 ghost use Rattle.far_private.specs.Heap.{IsWell, IsWhyNoAccess, is_length, new_object, object_with, size_of, structure_of};
 ghost use Rattle.far_pool.specs.declared.handle.Handle.{Handle as AnyHandle};
-ghost use Rattle.far_pool.specs.Pool.{Changes, IsWhyNone, IsWhyNotWhole, Makes, NextGeneration, Same, Updates, Writes, at, bytes_at, generation_in, generation_on, has, object_on, refusal_of};
+ghost use Rattle.far_pool.specs.Pool.{Changes, IsWhyNone, IsWhyNotWhole, Makes, NextGeneration, Same, Updates, Writes, at, bytes_at, generation_in, generation_on, has, len_at, object_on, refusal_of};
+ghost use Rattle.far_pool.specs.Rooms.{IsNotTaken, IsStuck};
 ghost use Rattle.far_pool.specs.Numbers.{IsOfHeaps};
 ghost use Rattle.far_pool.specs.declared.worker.TheConstants.{MOST_HEAPS};
 
@@ -56,9 +58,9 @@ impl<D: Device + Drop, M: MakeDevice<D> + Drop> Model for Worker<D, M> {
 
     ghost Value = { Pool };
 
-    ghost view = { λ w. record { honest = w.parts.honest; shelves = w.parts.shelves.items } };
+    ghost view = { λ w. record { honest = w.parts.honest; logs = w.parts.logs; shelves = w.parts.shelves.items } };
 
-    ghost invariant = { λ w. AreAlike w.parts.honest w.parts.shelves.items × (w.parts.honest ≡ true → M.honest ≡ true) × (length w.parts.shelves.items ≤ MOST_HEAPS) };
+    ghost invariant = { λ w. AreAlike w.parts.honest w.parts.logs w.parts.shelves.items × (w.parts.honest ≡ true → M.honest ≡ true) × (length w.parts.shelves.items ≤ MOST_HEAPS) };
 }
 
 impl<D: Device + Drop, M: MakeDevice<D> + Drop> Worker<D, M> {
@@ -77,6 +79,7 @@ impl<D: Device + Drop, M: MakeDevice<D> + Drop> Worker<D, M> {
         ensures empty { IfOk result (λ worker. (h : AnyHandle) → at worker h ≡ None) }
         ensures zero { IfOk result (λ worker. (h : AnyHandle) → generation_in worker h ≡ 0) }
         ensures honest { IfOk result (λ worker. worker.honest ≡ honest) }
+        ensures logs { IfOk result (λ worker. worker.logs ≡ layout.logs) }
         ensures heaps { IfOk result (λ worker. length worker.shelves ≡ layout.heaps) }
     {
         let mut worker = Worker::without_heaps(alloc, maker, layout.logs, honest);
@@ -95,6 +98,7 @@ impl<D: Device + Drop, M: MakeDevice<D> + Drop> Worker<D, M> {
         ensures empty { (h : AnyHandle) → at result h ≡ None }
         ensures zero { (h : AnyHandle) → generation_in result h ≡ 0 }
         ensures honest { result.honest ≡ honest }
+        ensures logs { result.logs ≡ logs }
         ensures none { length result.shelves ≡ 0 }
     {
         Worker {
@@ -136,6 +140,7 @@ impl<D: Device + Drop, M: MakeDevice<D> + Drop> Worker<D, M> {
         ensures empty { IfOk result (λ c. (p : ℕ) → object_on c p ≡ None) }
         ensures zero { IfOk result (λ c. (p : ℕ) → generation_on c p ≡ 0) }
         ensures honest { IfOk result (λ c. c.honest ≡ self.old.honest) }
+        ensures logs { IfOk result (λ c. c.logs ≡ self.old.logs) }
     {
         let device = match self.parts.maker.make(number) {
             Ok(device) => device,
@@ -160,6 +165,7 @@ impl<D: Device + Drop, M: MakeDevice<D> + Drop> Worker<D, M> {
         requires empty { (p : ℕ) → object_on shelf p ≡ None }
         requires zero { (p : ℕ) → generation_on shelf p ≡ 0 }
         requires honest { shelf.honest ≡ self.old.honest }
+        requires logs { shelf.logs ≡ self.old.logs }
         ensures same { Same self.old self.new }
         ensures more { IfOk result (λ heap. (heap ≡ length self.old.shelves) × (length self.new.shelves ≡ length self.old.shelves + 1)) }
         ensures refused { OnErr result (self.new ≡ self.old) }
@@ -201,6 +207,7 @@ impl<D: Device + Drop, M: MakeDevice<D> + Drop> Worker<D, M> {
         ensures done { OnOk result (is_length len ≡ true) }
         ensures refused { OnErr result (self.new ≡ self.old) }
         ensures why { IfErr result (λ why. IsWhyNone len why) }
+        ensures room { result ≡ Err NoRoom → 3 ≤ self.old.logs → IsNotTaken D D.writes self.old heap }
     {
         let at = heap as usize;
         match self.parts.shelves[at].alloc_zeros(len, structure) {
@@ -226,6 +233,7 @@ impl<D: Device + Drop, M: MakeDevice<D> + Drop> Worker<D, M> {
         ensures done { OnOk result (is_length (length bytes.now) ≡ true) }
         ensures refused { OnErr result (self.new ≡ self.old) }
         ensures why { IfErr result (λ why. IsWhyNone (length bytes.now) why) }
+        ensures room { result ≡ Err NoRoom → 3 ≤ self.old.logs → IsNotTaken D D.writes self.old heap }
     {
         let at = heap as usize;
         match self.parts.shelves[at].alloc(bytes, structure) {
@@ -246,8 +254,8 @@ impl<D: Device + Drop, M: MakeDevice<D> + Drop> Worker<D, M> {
     /// Makes a new object of `len` zero bytes, 1 to 4,088, for a data structure, a number of the program's own choice. Its handle had no object.
     ///
     /// Refused, in this order: [`Refused::Length`] exactly where the length is out of range; [`Refused::NoPointer`] where each heap has 2,048 objects, and then `add_heap`
-    /// makes room for more; [`Refused::NoRoom`] where the heap whose turn it is has none, since its device doesn't take what lies near, or
-    /// [`Refused::EpochsSpent`] once 2^62 rounds were made. The next call is another heap's.
+    /// makes room for more; [`Refused::NoRoom`] where the heap whose turn it is has none: of three logs a heap or more only where its device refused to
+    /// take an object; [`Refused::EpochsSpent`] once 2^62 rounds were made. The next call is another heap's.
     pub fn alloc_zeros(&mut self, len: u16, structure: u8) -> Result<Handle, Refused>
         ensures made { IfOk result (λ handle. Makes handle (new_object self.old.honest len structure) self.old self.new) }
         ensures inside { IfOk result (λ handle. IsOfHeaps MOST_HEAPS handle) }
@@ -255,6 +263,7 @@ impl<D: Device + Drop, M: MakeDevice<D> + Drop> Worker<D, M> {
         ensures refused { OnErr result (self.new ≡ self.old) }
         ensures long { is_length len ≡ false → result ≡ Err Length }
         ensures why { IfErr result (λ why. IsWhyNone len why) }
+        ensures room { result ≡ Err NoRoom → 3 ≤ self.old.logs → IsStuck D D.writes self.old }
     {
         if len == 0 || len > LONGEST {
             return Err(Refused::Length);
@@ -273,6 +282,7 @@ impl<D: Device + Drop, M: MakeDevice<D> + Drop> Worker<D, M> {
         ensures refused { OnErr result (self.new ≡ self.old) }
         ensures long { is_length (length bytes.now) ≡ false → result ≡ Err Length }
         ensures why { IfErr result (λ why. IsWhyNone (length bytes.now) why) }
+        ensures room { result ≡ Err NoRoom → 3 ≤ self.old.logs → IsStuck D D.writes self.old }
     {
         if bytes.len() == 0 || bytes.len() > LONGEST as usize {
             return Err(Refused::Length);
@@ -286,7 +296,9 @@ impl<D: Device + Drop, M: MakeDevice<D> + Drop> Worker<D, M> {
     /// Reads bytes of an object, from one on, as many as `out` has: as they were written last, if the devices are honest.
     ///
     /// Refused, in this order: [`Refused::NotHeld`] exactly where the worker hasn't got the object, as of a handle whose object was dropped; [`Refused::Range`] exactly
-    /// where `out` has no byte or they pass the object's end; and then as a far object doesn't come.
+    /// where `out` has no byte or they pass the object's end; and then only [`Refused::NoRoom`] or [`Refused::EpochsSpent`] as `alloc`, of the handle's heap,
+    /// [`Refused::Memory`] or [`Refused::Device`] where the device, asked for this object, failed so, and [`Refused::Damaged`] where it gave more or fewer bytes, which no
+    /// honest one does.
     #[inline(always)]
     pub fn read(&mut self, handle: Handle, from: usize, out: &mut [u8]) -> Result<(), Refused>
         ensures same { self.new ≡ self.old }
@@ -295,6 +307,8 @@ impl<D: Device + Drop, M: MakeDevice<D> + Drop> Worker<D, M> {
         ensures done { OnOk result (refusal_of (at self.old handle) from (length out.old) ≡ None) }
         ensures barred { (why : Refusal) → refusal_of (at self.old handle) from (length out.old) ≡ Some why → result ≡ Err why }
         ensures why { IfErr result (λ why. IsWhyNoAccess self.old.honest (refusal_of (at self.old handle) from (length out.old)) why) }
+        ensures room { result ≡ Err NoRoom → 3 ≤ self.old.logs → IsNotTaken D D.writes self.old handle.heap }
+        ensures given { IfErr result (λ why. IsNotGiven D D.reads handle.pointer (len_at self.old handle) why) }
     {
         self.parts.accesses = self.parts.accesses.wrapping_add(1);
         let at = handle.heap as usize;
@@ -312,6 +326,8 @@ impl<D: Device + Drop, M: MakeDevice<D> + Drop> Worker<D, M> {
         ensures refused { OnErr result (self.new ≡ self.old) }
         ensures barred { (why : Refusal) → refusal_of (at self.old handle) from (length bytes.now) ≡ Some why → result ≡ Err why }
         ensures why { IfErr result (λ why. IsWhyNoAccess self.old.honest (refusal_of (at self.old handle) from (length bytes.now)) why) }
+        ensures room { result ≡ Err NoRoom → 3 ≤ self.old.logs → IsNotTaken D D.writes self.old handle.heap }
+        ensures given { IfErr result (λ why. IsNotGiven D D.reads handle.pointer (len_at self.old handle) why) }
     {
         self.parts.accesses = self.parts.accesses.wrapping_add(1);
         let at = handle.heap as usize;
@@ -338,6 +354,8 @@ impl<D: Device + Drop, M: MakeDevice<D> + Drop> Worker<D, M> {
         ensures kept { OnErr result (bytes.new ≡ bytes.old) }
         ensures barred { (why : Refusal) → refusal_of (at self.old handle) from (length bytes.old) ≡ Some why → result ≡ Err why }
         ensures why { IfErr result (λ why. IsWhyNoAccess self.old.honest (refusal_of (at self.old handle) from (length bytes.old)) why) }
+        ensures room { result ≡ Err NoRoom → 3 ≤ self.old.logs → IsNotTaken D D.writes self.old handle.heap }
+        ensures given { IfErr result (λ why. IsNotGiven D D.reads handle.pointer (len_at self.old handle) why) }
     {
         self.parts.accesses = self.parts.accesses.wrapping_add(1);
         let at = handle.heap as usize;
@@ -349,8 +367,8 @@ impl<D: Device + Drop, M: MakeDevice<D> + Drop> Worker<D, M> {
 
     /// Reads an object whole into `out`, in place of the bytes that `out` had: one buffer serves many reads, and grows to the longest. It is one access.
     ///
-    /// Refused, in this order: [`Refused::NotHeld`] exactly where the worker hasn't got the object; [`Refused::Memory`] where `out` can't grow; and then as a far object
-    /// doesn't come. `out` is empty then.
+    /// Refused, in this order: [`Refused::NotHeld`] exactly where the worker hasn't got the object; [`Refused::Memory`] where `out` can't grow; and then as
+    /// [`Worker::read`]. `out` is empty then.
     pub fn read_into(&mut self, handle: Handle, out: &mut Vec<u8>) -> Result<(), Refused>
         ensures same { self.new ≡ self.old }
         ensures read { OnOk result (IfSome (bytes_at self.old handle) (λ bytes. out.new.items ≡ bytes)) }
@@ -358,6 +376,8 @@ impl<D: Device + Drop, M: MakeDevice<D> + Drop> Worker<D, M> {
         ensures refused { OnErr result (out.new.items ≡ []) }
         ensures barred { at self.old handle ≡ None → result ≡ Err NotHeld }
         ensures why { IfErr result (λ why. IsWhyNotWhole self.old.honest (at self.old handle) why) }
+        ensures room { result ≡ Err NoRoom → 3 ≤ self.old.logs → IsNotTaken D D.writes self.old handle.heap }
+        ensures given { IfErr result (λ why. why ≢ Memory → IsNotGiven D D.reads handle.pointer (len_at self.old handle) why) }
     {
         self.parts.accesses = self.parts.accesses.wrapping_add(1);
         let at = handle.heap as usize;

@@ -5,15 +5,15 @@ use far_pool::{Handle, MakeDevice, Worker};
 use far_word::Refused;
 
 /// Objects.
-const OBJECTS: u8 = 120;
+pub(crate) const OBJECTS: u8 = 120;
 
 /// Bytes of each.
-const LEN: usize = 400;
+pub(crate) const LEN: usize = 400;
 
 /// A worker, its objects, and what came of the calls.
 #[derive(Drop)]
 pub struct Calls<D: Device + Drop, M: MakeDevice<D> + Drop> {
-    worker: Worker<D, M>,
+    pub(crate) worker: Worker<D, M>,
     handles: [Handle; 120],
     /// Answers that were wrong.
     pub wrong: u64,
@@ -22,7 +22,7 @@ pub struct Calls<D: Device + Drop, M: MakeDevice<D> + Drop> {
 }
 
 // The bytes of an object: its number, or its number and one more once it was changed.
-fn bytes_of(number: u8, changes: u8) -> [u8; LEN] {
+pub(crate) fn bytes_of(number: u8, changes: u8) -> [u8; LEN] {
     [number.wrapping_add(changes); LEN]
 }
 
@@ -38,7 +38,7 @@ impl<D: Device + Drop, M: MakeDevice<D> + Drop> Calls<D, M> {
     }
 
     // Whether a call was done, or else is to be made once more.
-    fn is_done(&mut self, answer: Result<(), Refused>) -> bool {
+    pub(crate) fn is_done(&mut self, answer: Result<(), Refused>) -> bool {
         match answer {
             Ok(()) => true,
             Err(_) => {
@@ -48,10 +48,15 @@ impl<D: Device + Drop, M: MakeDevice<D> + Drop> Calls<D, M> {
         }
     }
 
-    fn expect(&mut self, right: bool) {
+    pub(crate) fn expect(&mut self, right: bool) {
         if !right {
             self.wrong = self.wrong.saturating_add(1);
         }
+    }
+
+    // The handle of an object.
+    pub(crate) fn handle_of(&self, number: u8) -> Handle {
+        self.handles[number as usize % 120]
     }
 
     // Makes an object.
@@ -70,7 +75,7 @@ impl<D: Device + Drop, M: MakeDevice<D> + Drop> Calls<D, M> {
 
     // An object is as it was written last.
     fn get(&mut self, number: u8, changes: u8) {
-        let handle = self.handles[number as usize % 120];
+        let handle = self.handle_of(number);
         let mut out = [0; LEN];
         let first = self.worker.read(handle, 0, &mut out);
         if !self.is_done(first) {
@@ -82,7 +87,7 @@ impl<D: Device + Drop, M: MakeDevice<D> + Drop> Calls<D, M> {
 
     // Counts the bytes of an object up.
     fn count_up(&mut self, number: u8) {
-        let handle = self.handles[number as usize % 120];
+        let handle = self.handle_of(number);
         let mut room = [0; LEN];
         let new = bytes_of(number, 1);
         let first = self.worker.update(handle, 0, &mut room, |bytes: &mut [u8]| bytes.fill(new[0]));

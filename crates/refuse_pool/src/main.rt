@@ -5,6 +5,7 @@
 #![tactic(auto)]
 
 mod calls;
+mod others;
 
 use calls::Calls;
 use far_device::Device;
@@ -29,6 +30,9 @@ fn play<D: Device + Drop, M: MakeDevice<D> + Drop>(
     calls.change();
     calls.grow();
     calls.renew();
+    calls.get_all_whole(alloc);
+    calls.put_large(alloc);
+    calls.go_by_number();
     calls.end();
     Ok(calls)
 }

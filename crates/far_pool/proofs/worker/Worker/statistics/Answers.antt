@@ -19,7 +19,7 @@ pub loop-number-preserved : goal.loop-number-preserved
 loop-number-preserved g c =
     let n = c.loop-number.number in
     let shelves = c.args.self.now.shelves in
-    let is = shelf_at c.self.inside.parts.honest c.self.inside.parts.shelves.items c.args.self.now n c.index.result.now c.self.view_is (omega arith) c.index.ensures in
+    let is = shelf_at c.self.inside.parts.honest c.self.inside.parts.logs c.self.inside.parts.shelves.items c.args.self.now n c.index.result.now c.self.view_is (omega arith) c.index.ensures in
     let more : c.statistics.result.near + c.statistics.result.far ≡ count_on (slice_index_or shelves n no_shelf) = c.statistics.ensures.count ∙ ap count_on (sym is) in
     let i = c.loop-number.invariant in
     let a = c.add.ensures in
