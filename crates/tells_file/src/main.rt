@@ -129,6 +129,7 @@ fn play<D: Device>(devices: &mut [D]) -> [Told; DEVICES] {
     told
 }
 
+// page
 // Devices over a file.
 fn over(alloc: Global, file: File) -> Option<Vec<Far>> {
     let shared = SharedFile::new(alloc, file).ok()?;
@@ -138,6 +139,7 @@ fn over(alloc: Global, file: File) -> Option<Vec<Far>> {
     }
     Some(devices)
 }
+// end
 
 // A file that has lost its name; `None`, and why is told, where there is none.
 fn open(rt: &HostRuntime, name: &str, replaces: bool) -> Option<File> {

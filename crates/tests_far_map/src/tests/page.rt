@@ -1,4 +1,4 @@
-//! The lines of far_map's page.
+//! The lines of docs/USING.md.
 
 use far_double::Double;
 use far_map::Map;
@@ -8,16 +8,18 @@ use std::alloc::Global;
 use std::test::Fail;
 
 fn holds<O: Objects + Drop>(alloc: Global, map: &mut Map<O>) -> Result<bool, Refused> {
-    map.insert(b"apple", b"green")?;
-    map.insert(b"apple", b"red")?;
+    // page
+    map.insert(b"apple", b"green")?; // true: it is new
+    map.insert(b"apple", b"red")?; // false
     let mut out = Vec::new(alloc);
-    let there = map.get(b"apple", &mut out)?;
+    let there = map.get(b"apple", &mut out)?; // true; out: red
     map.update(b"apple", &mut out, |value: &mut Vec<u8>| value.truncate(2))?;
-    let len = map.get_with(b"apple", |value: &[u8]| value.len())?;
+    let len = map.get_with(b"apple", |value: &[u8]| value.len())?; // Some(2), not copied
     let mut bytes = 0usize;
     map.for_each(|key: &[u8], _value: &[u8]| bytes = bytes.wrapping_add(key.len()))?;
     map.remove(b"apple")?;
     map.reserve(1_000)?;
+    // end
     Ok(there && len == Some(2) && bytes == 5 && map.is_empty())
 }
 

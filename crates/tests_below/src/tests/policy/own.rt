@@ -13,6 +13,7 @@ pub(crate) struct Youngest {
     pub(crate) times: u8,
 }
 
+// page
 impl Policy for Youngest {
     ghost gives = { λ old rows most outcome new. Unit {0} };
 
@@ -27,6 +28,7 @@ impl Policy for Youngest {
         Ok(())
     }
 }
+// end
 
 /// Whether these are rows of different logs, all of which a heap may have.
 pub(crate) fn are_rows(rows: &[LogRow]) -> bool
