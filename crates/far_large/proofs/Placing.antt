@@ -9,12 +9,12 @@ none_some : {n : ℕ} {o : Option ℕ} → o ≡ None → o ≡ Some n → ⊥
 none_some e f = cc
 
 -- ---- of the first so many numbers one is this, or none is
-record IsOne (numbers : List ℕ) (count k : ℕ) : Type 0 where
-  place : ℕ
-  within : place < count
-  is : number_of numbers place ≡ k
+pub record IsOne (numbers : List ℕ) (count k : ℕ) : Type 0 where
+  pub place : ℕ
+  pub within : place < count
+  pub is : number_of numbers place ≡ k
 
-among : (numbers : List ℕ) (count k : ℕ) → IsOne numbers count k ⊎ IsNone numbers count k
+pub among : (numbers : List ℕ) (count k : ℕ) → IsOne numbers count k ⊎ IsNone numbers count k
 among numbers zero k = inr (λ i h. absurd (omega arith))
 among numbers (suc n) k = elim (eqb_tells (number_of numbers n) k) [
   | inl here ↦ inl (record { place = n; within = omega arith; is = here.1 })

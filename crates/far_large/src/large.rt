@@ -4,7 +4,7 @@ ghost use Rattle.std.specs.Prelude.{◌≡◌, ◌<◌, ℕ, List, true, Some, N
 ghost use Rattle.far_word.specs.declared.refused.Refused.{Refused as Refusal};
 ghost use Rattle.far_word.specs.declared.refused.Refused.TheVariants.{Length, NotHeld};
 ghost use Rattle.far_objects.specs.Far.{barred};
-ghost use Rattle.far_large.specs.Parts.{AsBefore, Holds, IsWhyNotPut, IsWhyNotRead, Puts, Stands, Takes};
+ghost use Rattle.far_large.specs.Parts.{AsBefore, Holds, IsCount, IsWhyNotPut, IsWhyNotRead, Puts, Stands, Takes};
 
 use crate::steps::{are_there, drop_first, place_all, read_parts};
 use far_objects::{MOST, Objects};
@@ -31,11 +31,12 @@ impl Model for Large {
 }
 
 impl Large {
-    /// Makes far objects of the value's bytes, with 4 bytes near for each: all of them, or none.
+    /// Makes far objects of the value's bytes, with 4 bytes near for each: all of them, or none. There are as many as the bytes need.
     ///
     /// Refused [`Refused::Length`] exactly where there is no byte; [`Refused::Memory`]; and as `worker` makes no object. The same objects are there as before then.
     pub fn put<O: Objects>(alloc: Global, worker: &mut O, bytes: &[u8]) -> Result<Large, Refused>
         ensures made { IfOk result (λ large. Puts large bytes.now (O.far worker.old) (O.far worker.new)) }
+        ensures count { IfOk result (λ large. IsCount large.len (length large.numbers)) }
         ensures refused { OnErr result (AsBefore (O.far worker.old) (O.far worker.new)) }
         ensures empty { length bytes.now ≡ 0 → result ≡ Err Length }
         ensures why { IfErr result (λ why. IsWhyNotPut O.unmade (length bytes.now) why) }
