@@ -9,4 +9,5 @@ pub mod Emptying
 pub mod Fronts
 pub mod PutLast
 pub mod Listing
+pub mod Folding
 pub mod EachOnce

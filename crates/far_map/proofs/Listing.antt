@@ -72,10 +72,14 @@ module _ {F : Type 0} (R : F → Entry → F → Type 0) where
   pub called_whole : (b : Bytes) (ss : List Slot) (n : ℕ) (f p : F) → length ss ≤ n → FoldsTo R f (entries_in b (take n ss)) p → FoldsTo R f (entries_in b ss) p
   called_whole b ss n f p whole told = subst (λ xs. FoldsTo R f (entries_in b xs) p) (take_all n ss whole) told
 
-  pub all_called : (r : Result (Unit {0}) Refused) (p : Plain) (t : Table) (f : F) → table_of p ≡ t → Sound p → t.honest ≡ true →
-      (p.far.honest ≡ true → OnOk r ((last : F) × FoldsTo R f (entries_in p.far.bytes p.slots) last)) → OnOk r ((told : List Entry) × AreAllOf told t.entries × (last : F) × FoldsTo R f told last)
-  all_called (Ok u) p t f v sound h called =
+  pub all_called : (r : Result (Unit {0}) Refused) (p : Plain) (t : Table) (f last : F) → table_of p ≡ t → Sound p → t.honest ≡ true →
+      (p.far.honest ≡ true → OnOk r (FoldsTo R f (entries_in p.far.bytes p.slots) last)) → OnOk r ((told : List Entry) × AreAllOf told t.entries × FoldsTo R f told last)
+  all_called (Ok u) p t f last v sound h called =
       let o : p.far.honest ≡ true = ap (λ (x : Table). x.honest) v ∙ h in
-      let so = called o in
-      (entries_in p.far.bytes p.slots, all_of p t v sound o, so.0, so.1)
-  all_called (Err e) p t f v sound h called = called (ap (λ (x : Table). x.honest) v ∙ h)
+      (entries_in p.far.bytes p.slots, all_of p t v sound o, called o)
+  all_called (Err e) p t f last v sound h called = called (ap (λ (x : Table). x.honest) v ∙ h)
+
+  pub to_last : (r : Result (Unit {0}) Refused) (t : Table) (f last : F) → OnOk r ((told : List Entry) × AreAllOf told t.entries × FoldsTo R f told last) →
+      OnOk r ((told : List Entry) × AreAllOf told t.entries × (last : F) × FoldsTo R f told last)
+  to_last (Ok u) t f last so = (so.0, so.1, last, so.2)
+  to_last (Err e) t f last so = so

@@ -37,7 +37,7 @@ fn read_object<O: Objects + Drop>(
 }
 
 /// Reads the entry of a slot to the front of the buffer. How many bytes it has; none where the slot has no entry.
-fn read_slot<O: Objects + Drop>(
+pub fn read_slot<O: Objects + Drop>(
     parts: &mut Parts<O>,
     place: usize,
 ) -> Result<Option<usize>, Refused>
@@ -85,17 +85,18 @@ fn visit_slot<O: Objects + Drop, F: FnMut(&[u8], &[u8])>(
 /// Calls `visit` at the entries of all slots, in the order of the slots.
 fn visit_slots<O: Objects + Drop, F: FnMut(&[u8], &[u8])>(
     parts: &mut Parts<O>,
-    mut visit: F,
+    visit: &mut F,
 ) -> Result<(), Refused>
     requires held { Held (O.far parts.old.worker) parts.old.near.slots }
-    requires callable { F.IsAlwaysCallable visit }
+    requires callable { F.IsAlwaysCallable visit.old }
+    ensures callable { F.IsAlwaysCallable visit.new }
     ensures far { O.far parts.new.worker ≡ O.far parts.old.worker }
     ensures near { parts.new.near ≡ parts.old.near }
-    ensures called { (O.far parts.old.worker).honest ≡ true → OnOk result ((last : F) × StepsAtEach (λ p k v q. CalledAtTwo F.FnMut p k v tt q) visit (entries_in (O.far parts.old.worker).bytes parts.old.near.slots) last) }
+    ensures called { (O.far parts.old.worker).honest ≡ true → OnOk result (StepsAtEach (λ p k v q. CalledAtTwo F.FnMut p k v tt q) visit.old (entries_in (O.far parts.old.worker).bytes parts.old.near.slots) visit.new) }
     ensures why { IfErr result (O.unreached (O.far parts.old.worker).honest) }
 {
     for place in 0..parts.near.slots.len() {
-        match visit_slot(parts, place, &mut visit) {
+        match visit_slot(parts, place, visit) {
             Ok(()) => {}
             Err(why) => return Err(why),
         }
@@ -107,10 +108,21 @@ impl<O: Objects + Drop> Map<O> {
     /// Calls `visit` with the key and the value of each entry once, in no order that is told.
     ///
     /// Refused as the worker's reads are; then `visit` may have been called at some of them.
-    pub fn for_each<F: FnMut(&[u8], &[u8])>(&mut self, visit: F) -> Result<(), Refused>
+    pub fn for_each<F: FnMut(&[u8], &[u8])>(&mut self, mut visit: F) -> Result<(), Refused>
         requires { F.IsAlwaysCallable visit }
         ensures same { self.new ≡ self.old }
         ensures called { self.old.honest ≡ true → OnOk result ((told : _) × AreAllOf told self.old.entries × (last : F) × StepsAtEach (λ p k v q. CalledAtTwo F.FnMut p k v tt q) visit told last) }
+        ensures why { IfErr result (O.unreached self.old.honest) }
+    {
+        self.for_each_with(&mut visit)
+    }
+
+    /// The same with a closure that is lent.
+    pub fn for_each_with<F: FnMut(&[u8], &[u8])>(&mut self, visit: &mut F) -> Result<(), Refused>
+        requires { F.IsAlwaysCallable visit.old }
+        ensures callable { F.IsAlwaysCallable visit.new }
+        ensures same { self.new ≡ self.old }
+        ensures called { self.old.honest ≡ true → OnOk result ((told : _) × AreAllOf told self.old.entries × StepsAtEach (λ p k v q. CalledAtTwo F.FnMut p k v tt q) visit.old told visit.new) }
         ensures why { IfErr result (O.unreached self.old.honest) }
     {
         visit_slots(&mut self.parts, visit)

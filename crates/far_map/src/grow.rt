@@ -16,7 +16,7 @@ fn homes(buckets: usize, count: usize) -> usize
     if count < buckets / 2 {
         buckets
     } else {
-        buckets.saturating_mul(2)
+        buckets.saturating_add(buckets / 2)
     }
 }
 
@@ -35,7 +35,7 @@ pub fn rebuild(alloc: Global, near: &mut Near, buckets: usize) -> Result<(), All
     Ok(())
 }
 
-/// Makes the index anew where seven eighths of its homes are taken: twice as large, if by entries. If there is no
+/// Makes the index anew where seven eighths of its homes are taken: half as large again, if by entries. If there is no
 /// memory for it, the old one goes on.
 pub fn make_roomy(alloc: Global, near: &mut Near)
     ensures sound { (f : Far) → Sound (plain f near.old) → Sound (plain f near.new) }

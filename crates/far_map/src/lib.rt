@@ -4,6 +4,7 @@
 mod buffer;
 mod each;
 mod entry;
+mod fold;
 mod grow;
 mod laws;
 mod lookup;

@@ -19,7 +19,7 @@ use far_word::Refused;
 pub struct Statistics {
     /// How many entries it has.
     pub entries: usize,
-    /// How many homes the index has: it is made anew, mostly twice as large, where seven eighths are taken.
+    /// How many homes the index has: it is made anew, mostly half as large again, where seven eighths are taken.
     pub homes: usize,
     /// How many slots have an entry or had one since the index was made.
     pub taken: usize,

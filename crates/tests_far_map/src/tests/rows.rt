@@ -41,16 +41,24 @@ fn has<O: Objects + Drop>(
     }
 }
 
+// Whether a call is made again: the far side refuses it twice at most, and memory once.
+fn is_refused(answer: Result<bool, Refused>) -> bool {
+    answer == Err(Refused::Device) || answer == Err(Refused::Memory)
+}
+
 fn has_again<O: Objects + Drop>(
     map: &mut Map<O>,
     key: &[u8],
     len: Option<usize>,
     out: &mut Vec<u8>,
 ) -> Result<bool, Refused> {
-    match has(map, key, len, out) {
-        Err(Refused::Device) => has(map, key, len, out),
-        answer => answer,
+    for _ in 0..3 {
+        let answer = has(map, key, len, out);
+        if !is_refused(answer) {
+            return answer;
+        }
     }
+    has(map, key, len, out)
 }
 
 // Gives a key a value, or only changes the one that it has, or takes it out. Whether it had one before.
@@ -76,7 +84,7 @@ fn give<O: Objects + Drop>(
     }
 }
 
-// The same once more where the far side refuses; there must be as many entries as before then.
+// The same again where it is refused; there must be as many entries as before then.
 fn give_again<O: Objects + Drop>(
     map: &mut Map<O>,
     key: &[u8],
@@ -85,10 +93,13 @@ fn give_again<O: Objects + Drop>(
     out: &mut Vec<u8>,
 ) -> Result<bool, Refused> {
     let len = map.len();
-    match give(map, key, value, changes, out) {
-        Err(Refused::Device) if map.len() == len => give(map, key, value, changes, out),
-        answer => answer,
+    for _ in 0..3 {
+        let answer = give(map, key, value, changes, out);
+        if !is_refused(answer) || map.len() != len {
+            return answer;
+        }
     }
+    give(map, key, value, changes, out)
 }
 
 // One key of a row. What is refused leaves the value, and a change gives none to a key that has none.

@@ -20,7 +20,7 @@ loop-place-preserved g c =
       near = c.visit_slot.ensures.near ∙ so.near;
       called = λ o.
           let told = c.in-Ok.ensures.called (ap (λ (f : Far). f.honest) so.far ∙ o) in
-          called_next (λ p e q. CalledAtTwo g.F.FnMut p e.0 e.1 tt q) bytes slots at.place c.args.visit at.visit c.visit_slot.new.visit low (so.called o)
+          called_next (λ p e q. CalledAtTwo g.F.FnMut p e.0 e.1 tt q) bytes slots at.place c.args.visit.now at.visit c.visit_slot.new.visit low (so.called o)
           (subst (λ e. MatchOption e (c.visit_slot.new.visit ≡ at.visit) (λ x. CalledAtTwo g.F.FnMut at.visit x.0 x.1 tt c.visit_slot.new.visit))
           (λ i. entry_in (so.far i).bytes (slot_at (so.near i).slots at.place)) told);
     }
@@ -30,4 +30,4 @@ returns-clause-called g c = λ o.
     let at = c.loop-place in
     let slots = c.args.parts.now.near.slots in
     let whole : length slots ≤ at.place = omega (arith, c.loop-place-test.false, c.len-place-end.ensures) in
-    (at.visit, called_whole (λ p e q. CalledAtTwo g.F.FnMut p e.0 e.1 tt q) (g.O.Objects.far c.args.parts.now.worker).bytes slots at.place c.args.visit at.visit whole (at.invariant.called o))
+    called_whole (λ p e q. CalledAtTwo g.F.FnMut p e.0 e.1 tt q) (g.O.Objects.far c.args.parts.now.worker).bytes slots at.place c.args.visit.now at.visit whole (at.invariant.called o)
