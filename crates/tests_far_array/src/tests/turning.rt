@@ -6,12 +6,12 @@ use far_double::Double;
 use far_word::Refused;
 use std::alloc::Global;
 
-// Two numbers change places, one is set at a block's begin, and the last is taken; each call once more where it is refused.
+// Two numbers change places, one is set at a block's begin, and the last is taken; each call again where it is refused: by the far side once, and once for memory.
 fn change(array: &mut ArrayOf<u64, Double>) -> Result<u64, Refused> {
-    if array.swap(3, 1_000).is_err() {
+    if array.swap(3, 1_000).is_err() && array.swap(3, 1_000).is_err() {
         array.swap(3, 1_000)?;
     }
-    if array.set(511, &7).is_err() {
+    if array.set(511, &7).is_err() && array.set(511, &7).is_err() {
         array.set(511, &7)?;
     }
     match array.pop() {

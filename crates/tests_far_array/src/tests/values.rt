@@ -58,7 +58,7 @@ pub(crate) fn step(told: u64, value: u64) -> u64 {
     told.wrapping_mul(31).wrapping_add(value)
 }
 
-/// The numbers below `count`, each pushed once more where it is refused.
+/// The numbers below `count`, each pushed again where it is refused: by the far side once, and once for memory.
 pub(crate) fn numbers(
     alloc: Global,
     every: u64,
@@ -66,7 +66,7 @@ pub(crate) fn numbers(
 ) -> Result<ArrayOf<u64, Double>, Refused> {
     let mut array = empty(alloc, every)?;
     for value in 0..count {
-        if array.push(&value).is_err() {
+        if array.push(&value).is_err() && array.push(&value).is_err() {
             array.push(&value)?;
         }
     }
