@@ -1,0 +1,4 @@
+pub mod Names
+pub mod Longs
+pub mod Dictionaries
+pub mod Causes
