@@ -4,7 +4,6 @@ use Rattle.std.specs.Io.KnownBytes.{Consumes, Keeps}
 use Rattle.std.proofs.lemmas.List.{append-nil, append_assoc, get_or_at, length-append}
 use Rattle.far_word.specs.declared.refused.Refused.{Refused as Refusal}
 use Rattle.far_word.specs.declared.refused.Refused.TheVariants.{Length, Memory}
-use Rattle.far_objects.specs.declared.objects.TheConstants.{MOST}
 use Rattle.far_seen.specs.Lines.{LineSet}
 use Rattle.far_firsts.specs.Lines.{ends_in, lines_of, text_of, IsPlain}
 use Rattle.far_firsts.specs.Causes.{IsCause, IsWhyNext, IsWhyNot}
@@ -15,16 +14,16 @@ use Rattle.far_firsts.proofs.Cuts.{ends_of, first_line, lines_join, lines_within
 
 -- ---- of a line
 -- a longer line isn't taken for the same cause
-longer : (refuses : Refusal → Type 0) (m k : ℕ) (why : Refusal) → m ≤ k → IsWhyNot refuses m why → IsWhyNot refuses k why
-longer refuses m k why le w = elim w [
+longer : (longest : ℕ) (refuses : Refusal → Type 0) (m k : ℕ) (why : Refusal) → m ≤ k → IsWhyNot longest refuses m why → IsWhyNot longest refuses k why
+longer longest refuses m k why le w = elim w [
   | inl long ↦ inl (long.0, omega (arith, long.1, le))
   | inr by ↦ inr by
 ]
 
 -- ---- of a run that halts
-module _ (refuses : Refusal → Type 0) (end : ℕ) (lines : LineSet) (part piece : List ℕ) (count : ℕ) (p : IsPlain end part) (q : IsPlain end piece) where
+module _ (longest : ℕ) (refuses : Refusal → Type 0) (end : ℕ) (lines : LineSet) (part piece : List ℕ) (count : ℕ) (p : IsPlain end part) (q : IsPlain end piece) where
   -- at a line whose end is there
-  pub end_halts : (rest tail : List ℕ) (why : Why) → rest ≡ (piece ++ end ∷ []) ++ tail → IsWhyNext refuses count (length (part ++ piece)) why → IsWhyHalt refuses end (state lines (part ++ rest) count) why
+  pub end_halts : (rest tail : List ℕ) (why : Why) → rest ≡ (piece ++ end ∷ []) ++ tail → IsWhyNext longest refuses count (length (part ++ piece)) why → IsWhyHalt longest refuses end (state lines (part ++ rest) count) why
   end_halts rest tail Done is w = absurd w
   end_halts rest tail (Refused why) is w = elim w [
     | inl e ↦ inl e
@@ -42,7 +41,7 @@ module _ (refuses : Refusal → Type 0) (end : ℕ) (lines : LineSet) (part piec
   end_halts rest tail TooMany is w = w
 
   -- bytes of a line whose end isn't there weren't kept
-  pub keep_halts : (why : Refusal) → (why ≡ Memory) ⊎ ((why ≡ Length) × (MOST < length part + length piece)) → IsWhyHalt refuses end (state lines (part ++ piece) count) (Refused why)
+  pub keep_halts : (why : Refusal) → (why ≡ Memory) ⊎ ((why ≡ Length) × (longest < length part + length piece)) → IsWhyHalt longest refuses end (state lines (part ++ piece) count) (Refused why)
   keep_halts why w = elim w [
     | inl e ↦ inl e
     | inr long ↦ inr (
@@ -56,19 +55,19 @@ module _ (refuses : Refusal → Type 0) (end : ℕ) (lines : LineSet) (part piec
   ]
 
 -- at the line that the end of the text ends
-pub last_halts : (refuses : Refusal → Type 0) (end : ℕ) (lines : LineSet) (part : List ℕ) (count : ℕ) (why : Why) → IsPlain end part → (length part ≡ 0 → ⊥) → IsWhyNext refuses count (length (part ++ [])) why →
-    IsWhyHalt refuses end (state lines part count) why
-last_halts refuses end lines part count Done p some w = absurd w
-last_halts refuses end lines part count (Refused why) p some w = elim w [
+pub last_halts : (longest : ℕ) (refuses : Refusal → Type 0) (end : ℕ) (lines : LineSet) (part : List ℕ) (count : ℕ) (why : Why) → IsPlain end part → (length part ≡ 0 → ⊥) → IsWhyNext longest refuses count (length (part ++ [])) why →
+    IsWhyHalt longest refuses end (state lines part count) why
+last_halts longest refuses end lines part count Done p some w = absurd w
+last_halts longest refuses end lines part count (Refused why) p some w = elim w [
   | inl e ↦ inl e
-  | inr by ↦ inr (part, [], sym (append-nil part), p, omega (arith, some), subst (λ t. IsWhyNot refuses (length t) why) (append-nil part) by)
+  | inr by ↦ inr (part, [], sym (append-nil part), p, omega (arith, some), subst (λ t. IsWhyNot longest refuses (length t) why) (append-nil part) by)
 ]
-last_halts refuses end lines part count (Input e) p some w = absurd w
-last_halts refuses end lines part count (Output e) p some w = absurd w
-last_halts refuses end lines part count TooMany p some w = w
+last_halts longest refuses end lines part count (Input e) p some w = absurd w
+last_halts longest refuses end lines part count (Output e) p some w = absurd w
+last_halts longest refuses end lines part count TooMany p some w = w
 
 -- ---- of the text
-module _ (refuses : Refusal → Type 0) (honest : Bool) (end : ℕ) (text bytes rest printed : List ℕ) (a s : State) (left : Option (List ℕ)) (is : text ≡ bytes ++ rest) (nothing : a.part ≡ []) (zero : a.count ≡ 0) (did : Did honest end bytes a s [] printed) where
+module _ (longest : ℕ) (refuses : Refusal → Type 0) (honest : Bool) (end : ℕ) (text bytes rest printed : List ℕ) (a s : State) (left : Option (List ℕ)) (is : text ≡ bytes ++ rest) (nothing : a.part ≡ []) (zero : a.count ≡ 0) (did : Did honest end bytes a s [] printed) where
   pub bytes_are : bytes ≡ text_of end did.ended ++ s.part
   bytes_are = ap (λ t. t ++ bytes) (sym nothing) ∙ did.text
 
@@ -84,8 +83,8 @@ module _ (refuses : Refusal → Type 0) (honest : Bool) (end : ℕ) (text bytes 
   all_ends n counted plain = sym (ap (ends_in end) bytes_are ∙ ends_of end did.ended s.part did.plain plain ∙ done_are n counted)
 
   -- a line that isn't taken is there
-  refused_line : (n : ℕ) (why : Refusal) (begun more : List ℕ) → s.count ≡ n → s.part ≡ begun ++ more → IsPlain end begun → 0 < length s.part → IsWhyNot refuses (length begun) why →
-      (n < length (lines_of end text)) × IsWhyNot refuses (length (get_or (lines_of end text) n [])) why
+  refused_line : (n : ℕ) (why : Refusal) (begun more : List ℕ) → s.count ≡ n → s.part ≡ begun ++ more → IsPlain end begun → 0 < length s.part → IsWhyNot longest refuses (length begun) why →
+      (n < length (lines_of end text)) × IsWhyNot longest refuses (length (get_or (lines_of end text) n [])) why
   refused_line n why begun more counted part plain some by =
       let some_more : 0 < length (begun ++ (more ++ rest)) = omega (arith, some, ap (λ (t : List ℕ). length t) part, length-append begun more, length-append begun (more ++ rest), length-append more rest) in
       let first = first_line end begun (more ++ rest) plain some_more in
@@ -94,13 +93,13 @@ module _ (refuses : Refusal → Type 0) (honest : Bool) (end : ℕ) (text bytes 
       let here : get_or (lines_of end text) n [] ≡ begun ++ first.0 =
       ap (λ (t : List (List ℕ)). get_or t n []) all ∙ get_or_at did.ended (begun ++ first.0) first.1 [] n (done_are n counted) in (
         omega (arith, done_are n counted, ap (λ (t : List (List ℕ)). length t) all, length-append did.ended ((begun ++ first.0) ∷ first.1)),
-        longer refuses (length begun) (length (get_or (lines_of end text) n [])) why (omega (arith, ap (λ (t : List ℕ). length t) here, length-append begun first.0)) by,
+        longer longest refuses (length begun) (length (get_or (lines_of end text) n [])) why (omega (arith, ap (λ (t : List ℕ). length t) here, length-append begun first.0)) by,
       )
 
   many : 18446744073709551615 ≤ s.count → 18446744073709551615 ≤ length text
   many h = omega (arith, h, did.count, zero, lines_within end did.ended, ap (λ (t : List ℕ). length t) bytes_are, length-append (text_of end did.ended) s.part, ap (λ (t : List ℕ). length t) is, length-append bytes rest)
 
-  pub halt_cause : (n : ℕ) (why : Why) → s.count ≡ n → IsWhyHalt refuses end s why → IsCause refuses end n why text left
+  pub halt_cause : (n : ℕ) (why : Why) → s.count ≡ n → IsWhyHalt longest refuses end s why → IsCause longest refuses end n why text left
   halt_cause n Done counted w = absurd w
   halt_cause n (Refused why) counted w = elim w [
     | inl e ↦ inl e

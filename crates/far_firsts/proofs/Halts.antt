@@ -16,8 +16,8 @@ use Rattle.far_firsts.proofs.OneOfEach.{one_part}
 use Rattle.far_firsts.proofs.Steps.{leaves_all}
 
 -- ---- the text has ended
-pub finished_none : (refuses : Refusal → Type 0) (honest : Bool) (end : ℕ) (lines : LineSet) (part : List ℕ) (n : ℕ) (a : Option (List ℕ)) → part ≡ [] → Finished refuses honest end (state lines part n) n Done a a
-finished_none refuses honest end lines part n a none = record {
+pub finished_none : (longest : ℕ) (refuses : Refusal → Type 0) (honest : Bool) (end : ℕ) (lines : LineSet) (part : List ℕ) (n : ℕ) (a : Option (List ℕ)) → part ≡ [] → Finished longest refuses honest end (state lines part n) n Done a a
+finished_none longest refuses honest end lines part n a none = record {
   ended = [];
   kept = [];
   which = inl (sym (ap last_of none), tt);
@@ -27,12 +27,12 @@ finished_none refuses honest end lines part n a none = record {
   leaves = Appends-nil a;
 }
 
-pub finished_refused : (refuses : Refusal → Type 0) (honest : Bool) (end : ℕ) (lines : LineSet) (part : List ℕ) (count n : ℕ) (why : Why) (a : Option (List ℕ)) → IsPlain end part → (length part ≡ 0 → ⊥) →
-    IsWhyNext refuses count (length (part ++ [])) why → n ≡ count → Finished refuses honest end (state lines part count) n why a a
-finished_refused refuses honest end lines part count n why a plain some w same = record {
+pub finished_refused : (longest : ℕ) (refuses : Refusal → Type 0) (honest : Bool) (end : ℕ) (lines : LineSet) (part : List ℕ) (count n : ℕ) (why : Why) (a : Option (List ℕ)) → IsPlain end part → (length part ≡ 0 → ⊥) →
+    IsWhyNext longest refuses count (length (part ++ [])) why → n ≡ count → Finished longest refuses honest end (state lines part count) n why a a
+finished_refused longest refuses honest end lines part count n why a plain some w same = record {
   ended = [];
   kept = [];
-  which = inr (refl, last_halts refuses end lines part count why plain some w);
+  which = inr (refl, last_halts longest refuses end lines part count why plain some w);
   count = omega (arith, same);
   some = tt;
   exact = λ h. refl;
@@ -43,9 +43,9 @@ last_is : (xs : List ℕ) → (length xs ≡ 0 → ⊥) → ◌≡◌ {A = List 
 last_is [] f = absurd (f refl)
 last_is (x ∷ xs) f = refl
 
-pub finished_last : (refuses : Refusal → Type 0) (honest : Bool) (end : ℕ) (lines put : LineSet) (part before out : List ℕ) (count n : ℕ) (why : Why) (a b : Option (List ℕ)) → IsPlain end part → (length part ≡ 0 → ⊥) → n ≡ count + 1 → before ≡ [] →
-    Added honest end lines put (part ++ []) before out → IsOver why → Leaves why out a b → Finished refuses honest end (state lines part count) n why a b
-finished_last refuses honest end lines put part before out count n why a b plain some counted none added over leaves =
+pub finished_last : (longest : ℕ) (refuses : Refusal → Type 0) (honest : Bool) (end : ℕ) (lines put : LineSet) (part before out : List ℕ) (count n : ℕ) (why : Why) (a b : Option (List ℕ)) → IsPlain end part → (length part ≡ 0 → ⊥) → n ≡ count + 1 → before ≡ [] →
+    Added honest end lines put (part ++ []) before out → IsOver why → Leaves why out a b → Finished longest refuses honest end (state lines part count) n why a b
+finished_last longest refuses honest end lines put part before out count n why a b plain some counted none added over leaves =
     let is : ◌≡◌ {A = List (List ℕ)} ((part ++ []) ∷ []) (last_of part) = ap (λ (t : List ℕ). t ∷ []) (append-nil part) ∙ last_is part some in
     record {
       ended = (part ++ []) ∷ [];
@@ -62,18 +62,18 @@ finished_last refuses honest end lines put part before out count n why a b plain
 pub wrote : (honest : Bool) (end : ℕ) (bytes : List ℕ) (a b : State) (old new : List ℕ) (p q : Option (List ℕ)) → old ≡ [] → Did honest end bytes a b old new → Appends p q new → Wrote honest end bytes a b p q
 wrote honest end bytes a b old new p q none d w = record { printed = new; did = subst (λ o. Did honest end bytes a b o new) none d; written = w }
 
-pub halted : (refuses : Refusal → Type 0) (honest : Bool) (end : ℕ) (bytes : List ℕ) (a : State) (count : ℕ) (old new : List ℕ) (why : Why) (p q : Option (List ℕ)) → old ≡ [] → Stopped refuses honest end bytes a count why old new →
-    Leaves why new p q → Halted refuses honest end bytes a count why p q
-halted refuses honest end bytes a count old new why p q none s w = record { printed = new; stopped = subst (λ o. Stopped refuses honest end bytes a count why o new) none s; leaves = w }
+pub halted : (longest : ℕ) (refuses : Refusal → Type 0) (honest : Bool) (end : ℕ) (bytes : List ℕ) (a : State) (count : ℕ) (old new : List ℕ) (why : Why) (p q : Option (List ℕ)) → old ≡ [] → Stopped longest refuses honest end bytes a count why old new →
+    Leaves why new p q → Halted longest refuses honest end bytes a count why p q
+halted longest refuses honest end bytes a count old new why p q none s w = record { printed = new; stopped = subst (λ o. Stopped longest refuses honest end bytes a count why o new) none s; leaves = w }
 
 -- the output fails, whatever was done
-pub did_stops : (refuses : Refusal → Type 0) (honest : Bool) (end : ℕ) (bytes : List ℕ) (a b : State) (old new : List ℕ) (why : Why) → IsWhyHalt refuses end b why → Did honest end bytes a b old new →
-    Stopped refuses honest end bytes a b.count why old new
-did_stops refuses honest end bytes a b old new why w d = record { now = b; counted = refl; did = d; cause = w }
+pub did_stops : (longest : ℕ) (refuses : Refusal → Type 0) (honest : Bool) (end : ℕ) (bytes : List ℕ) (a b : State) (old new : List ℕ) (why : Why) → IsWhyHalt longest refuses end b why → Did honest end bytes a b old new →
+    Stopped longest refuses honest end bytes a b.count why old new
+did_stops longest refuses honest end bytes a b old new why w d = record { now = b; counted = refl; did = d; cause = w }
 
-pub stops_so : (refuses : Refusal → Type 0) (honest : Bool) (end : ℕ) (bytes : List ℕ) (a : State) (count : ℕ) (old new : List ℕ) (first why : Why) → ((s : State) → IsWhyHalt refuses end s why) →
-    Stopped refuses honest end bytes a count first old new → Stopped refuses honest end bytes a count why old new
-stops_so refuses honest end bytes a count old new first why w s = record { now = s.now; counted = s.counted; did = s.did; cause = w s.now }
+pub stops_so : (longest : ℕ) (refuses : Refusal → Type 0) (honest : Bool) (end : ℕ) (bytes : List ℕ) (a : State) (count : ℕ) (old new : List ℕ) (first why : Why) → ((s : State) → IsWhyHalt longest refuses end s why) →
+    Stopped longest refuses honest end bytes a count first old new → Stopped longest refuses honest end bytes a count why old new
+stops_so longest refuses honest end bytes a count old new first why w s = record { now = s.now; counted = s.counted; did = s.did; cause = w s.now }
 
 -- ---- by an answer
 pub on_ok : {A E : Type 0} (r : Result A E) (P Q : Type 0) → (P → Q) → OnOk r P → OnOk r Q

@@ -20,12 +20,12 @@ use Rattle.far_firsts.proofs.OneOfEach.{part_join}
 use Rattle.far_firsts.proofs.Steps.{did_beside, leaves_all, leaves_then, left_of, some_same}
 
 -- all lines were taken
-over_cause : (refuses : Refusal → Type 0) (end n : ℕ) (why : Why) (text : List ℕ) (left : Option (List ℕ)) → IsOver why → n ≡ length (lines_of end text) → IsCause refuses end n why text left
-over_cause refuses end n Done text left o e = e
-over_cause refuses end n (Refused why) text left o e = absurd o
-over_cause refuses end n (Input x) text left o e = absurd o
-over_cause refuses end n (Output x) text left o e = tt
-over_cause refuses end n TooMany text left o e = absurd o
+over_cause : (longest : ℕ) (refuses : Refusal → Type 0) (end n : ℕ) (why : Why) (text : List ℕ) (left : Option (List ℕ)) → IsOver why → n ≡ length (lines_of end text) → IsCause longest refuses end n why text left
+over_cause longest refuses end n Done text left o e = e
+over_cause longest refuses end n (Refused why) text left o e = absurd o
+over_cause longest refuses end n (Input x) text left o e = absurd o
+over_cause longest refuses end n (Output x) text left o e = tt
+over_cause longest refuses end n TooMany text left o e = absurd o
 
 -- ---- one read more
 module _ (honest : Bool) (end reads : ℕ) (text : List ℕ) (a b : State) (left : Option (List ℕ)) (p q : Option (List ℕ)) (went : Went honest end reads text a b left p q) where
@@ -46,13 +46,13 @@ module _ (honest : Bool) (end reads : ℕ) (text : List ℕ) (a b : State) (left
       }
 
   -- ---- what the ends tell: the run began with no line
-  module _ (refuses : Refusal → Type 0) (none : a.lines ≡ set.empty) (nothing : a.part ≡ []) (zero : a.count ≡ 0) where
+  module _ (longest : ℕ) (refuses : Refusal → Type 0) (none : a.lines ≡ set.empty) (nothing : a.part ≡ []) (zero : a.count ≡ 0) where
     -- of a beginning of the text so much is done
-    told : (bytes rest printed : List ℕ) (s : State) (n : ℕ) (why : Why) (last r : Option (List ℕ)) → text ≡ bytes ++ rest → Did honest end bytes a s [] printed → s.count ≡ n → IsCause refuses end n why text last →
-        Leaves why printed p r → Tells refuses honest end n why text last p r
+    told : (bytes rest printed : List ℕ) (s : State) (n : ℕ) (why : Why) (last r : Option (List ℕ)) → text ≡ bytes ++ rest → Did honest end bytes a s [] printed → s.count ≡ n → IsCause longest refuses end n why text last →
+        Leaves why printed p r → Tells longest refuses honest end n why text last p r
     told bytes rest printed s n why last r is did counted cause leaves =
-        let lines : lines_of end text ≡ did.ended ++ lines_of end (s.part ++ rest) = lines_are refuses honest end text bytes rest printed a s last is nothing zero did in
-        let count : length did.ended ≡ n = done_are refuses honest end text bytes rest printed a s last is nothing zero did n counted in
+        let lines : lines_of end text ≡ did.ended ++ lines_of end (s.part ++ rest) = lines_are longest refuses honest end text bytes rest printed a s last is nothing zero did in
+        let count : length did.ended ≡ n = done_are longest refuses honest end text bytes rest printed a s last is nothing zero did n counted in
         let these : take n (lines_of end text) ≡ did.ended = ap (take n) lines ∙ take_at did.ended (lines_of end (s.part ++ rest)) n count in
         record {
           count = omega (arith, count, ap (λ (t : List (List ℕ)). length t) lines, length-append did.ended (lines_of end (s.part ++ rest)));
@@ -64,29 +64,29 @@ module _ (honest : Bool) (end reads : ℕ) (text : List ℕ) (a b : State) (left
         }
 
     -- the input fails
-    pub fails : (n : ℕ) (why : Why) (after : Option (List ℕ)) → b.count ≡ n → IsPlain end b.part → Keeps left after → ((read : List ℕ) × Consumes (Some text) after read × (n ≡ ends_in end read) → IsCause refuses end n why text after) →
-        Tells refuses honest end n why text after p q
+    pub fails : (n : ℕ) (why : Why) (after : Option (List ℕ)) → b.count ≡ n → IsPlain end b.part → Keeps left after → ((read : List ℕ) × Consumes (Some text) after read × (n ≡ ends_in end read) → IsCause longest refuses end n why text after) →
+        Tells longest refuses honest end n why text after p q
     fails n why after counted plain keeps so =
         told went.bytes went.rest went.wrote.printed b n why after q went.all went.wrote.did counted
-        (so (went.bytes, failed_read left after text went.bytes went.rest went.is_left went.all keeps, all_ends refuses honest end text went.bytes went.rest went.wrote.printed a b after went.all nothing zero went.wrote.did n counted plain))
+        (so (went.bytes, failed_read left after text went.bytes went.rest went.is_left went.all keeps, all_ends longest refuses honest end text went.bytes went.rest went.wrote.printed a b after went.all nothing zero went.wrote.did n counted plain))
         (leaves_all why went.wrote.printed p q went.wrote.written)
 
     -- too much came
-    pub ends_there : (n : ℕ) → b.count ≡ n → 18446744073709551615 ≤ reads → Tells refuses honest end n TooMany text left p q
+    pub ends_there : (n : ℕ) → b.count ≡ n → 18446744073709551615 ≤ reads → Tells longest refuses honest end n TooMany text left p q
     ends_there n counted many =
         told went.bytes went.rest went.wrote.printed b n TooMany left q went.all went.wrote.did counted
         (omega (arith, many, went.long, ap (λ (t : List ℕ). length t) went.all, length-append went.bytes went.rest))
         went.wrote.written
 
     -- the run ends in the midst of what was read
-    pub halts : (chunk : List ℕ) (n : ℕ) (why : Why) (after r : Option (List ℕ)) → Consumes left after chunk → Halted refuses honest end chunk b n why q r → Tells refuses honest end n why text after p r
+    pub halts : (chunk : List ℕ) (n : ℕ) (why : Why) (after r : Option (List ℕ)) → Consumes left after chunk → Halted longest refuses honest end chunk b n why q r → Tells longest refuses honest end n why text after p r
     halts chunk n why after r eats halted =
         let more = left_of left after went.rest chunk went.is_left eats in
         let s = halted.stopped.now in
         let is : text ≡ (went.bytes ++ chunk) ++ more.0 = went.all ∙ ap (λ t. went.bytes ++ t) more.2 ∙ sym (append_assoc went.bytes chunk more.0) in
         let did : Did honest end (went.bytes ++ chunk) a s [] (went.wrote.printed ++ halted.printed) = did_beside honest end a b s went.bytes chunk went.wrote.printed halted.printed went.wrote.did halted.stopped.did in
         told (went.bytes ++ chunk) more.0 (went.wrote.printed ++ halted.printed) s n why after r is did halted.stopped.counted
-        (halt_cause refuses honest end text (went.bytes ++ chunk) more.0 (went.wrote.printed ++ halted.printed) a s after is nothing zero did n why halted.stopped.counted halted.stopped.cause)
+        (halt_cause longest refuses honest end text (went.bytes ++ chunk) more.0 (went.wrote.printed ++ halted.printed) a s after is nothing zero did n why halted.stopped.counted halted.stopped.cause)
         (leaves_then why went.wrote.printed halted.printed p q r went.wrote.written halted.leaves)
 
     last_plain : (xs : List ℕ) → IsPlain end xs → ArePlain end (last_of xs)
@@ -94,7 +94,7 @@ module _ (honest : Bool) (end reads : ℕ) (text : List ℕ) (a b : State) (left
     last_plain (x ∷ xs) e = (e, tt)
 
     -- the text has ended
-    module _ (n : ℕ) (why : Why) (after r : Option (List ℕ)) (over : left ≡ Some []) (plain : IsPlain end b.part) (f : Finished refuses honest end b n why q r) where
+    module _ (n : ℕ) (why : Why) (after r : Option (List ℕ)) (over : left ≡ Some []) (plain : IsPlain end b.part) (f : Finished longest refuses honest end b n why q r) where
       d : Did honest end went.bytes a b [] went.wrote.printed
       d = went.wrote.did
 
@@ -104,7 +104,7 @@ module _ (honest : Bool) (end reads : ℕ) (text : List ℕ) (a b : State) (left
       all_lines : lines_of end text ≡ d.ended ++ last_of b.part
       unfolding d
       all_lines =
-          lines_are refuses honest end text went.bytes went.rest went.wrote.printed a b after went.all nothing zero went.wrote.did
+          lines_are longest refuses honest end text went.bytes went.rest went.wrote.printed a b after went.all nothing zero went.wrote.did
           ∙ ap (λ t. d.ended ++ lines_of end t) (ap (λ t. b.part ++ t) rest_is ∙ append-nil b.part)
           ∙ ap (λ t. d.ended ++ t) (lines_last end b.part plain)
 
@@ -113,7 +113,7 @@ module _ (honest : Bool) (end reads : ℕ) (text : List ℕ) (a b : State) (left
       count_is = omega (arith, f.count, d.count, zero, length-append d.ended f.ended)
 
       -- what was taken: all lines, or all but the last
-      taken : (ArePlain end f.ended) × (take n (lines_of end text) ≡ d.ended ++ f.ended) × (n ≤ length (lines_of end text)) × IsCause refuses end n why text after
+      taken : (ArePlain end f.ended) × (take n (lines_of end text) ≡ d.ended ++ f.ended) × (n ≤ length (lines_of end text)) × IsCause longest refuses end n why text after
       unfolding d
       taken = elim f.which [
         | inl last ↦
@@ -122,7 +122,7 @@ module _ (honest : Bool) (end reads : ℕ) (text : List ℕ) (a b : State) (left
               subst (ArePlain end) (sym last.0) (last_plain b.part plain),
               take_all n (lines_of end text) (omega (arith, same)) ∙ all,
               omega (arith, same),
-              over_cause refuses end n why text after last.1 same,
+              over_cause longest refuses end n why text after last.1 same,
             )
         | inr w ↦
             let none_more : length f.ended ≡ 0 = ap (λ (t : List (List ℕ)). length t) w.0 in
@@ -131,7 +131,7 @@ module _ (honest : Bool) (end reads : ℕ) (text : List ℕ) (a b : State) (left
               subst (ArePlain end) (sym w.0) tt,
               ap (take n) all_lines ∙ take_at d.ended (last_of b.part) n count ∙ sym (append-nil d.ended) ∙ ap (λ t. d.ended ++ t) (sym w.0),
               omega (arith, count, ap (λ (t : List (List ℕ)). length t) all_lines, length-append d.ended (last_of b.part)),
-              halt_cause refuses honest end text went.bytes went.rest went.wrote.printed a b after went.all nothing zero went.wrote.did n why counted w.1,
+              halt_cause longest refuses honest end text went.bytes went.rest went.wrote.printed a b after went.all nothing zero went.wrote.did n why counted w.1,
             )
       ]
 
@@ -142,7 +142,7 @@ module _ (honest : Bool) (end reads : ℕ) (text : List ℕ) (a b : State) (left
           ∙ sym (news_join end a.lines d.ended f.ended)
           ∙ news_are end a.lines (d.ended ++ f.ended) none (all_plain_join end d.ended f.ended d.plain taken.0) ∙ ap firsts (sym taken.1)
 
-      pub finishes : Tells refuses honest end n why text after p r
+      pub finishes : Tells longest refuses honest end n why text after p r
       unfolding d
       finishes = record {
         count = taken.2;
@@ -170,12 +170,12 @@ begins honest end text a left p is nothing = record {
 }
 
 -- there was no memory to begin
-not_begun : (refuses : Refusal → Type 0) (honest : Bool) (end : ℕ) (text : List ℕ) (left p : Option (List ℕ)) → Tells refuses honest end 0 (Refused Memory) text left p p
-not_begun refuses honest end text left p = record { count = omega arith; cause = inl refl; printed = []; some = tt; exact = λ h. refl; leaves = Appends-nil p }
+not_begun : (longest : ℕ) (refuses : Refusal → Type 0) (honest : Bool) (end : ℕ) (text : List ℕ) (left p : Option (List ℕ)) → Tells longest refuses honest end 0 (Refused Memory) text left p p
+not_begun longest refuses honest end text left p = record { count = omega arith; cause = inl refl; printed = []; some = tt; exact = λ h. refl; leaves = Appends-nil p }
 
-pub never_began : (refuses : Refusal → Type 0) (honest : Bool) (end n : ℕ) (why : Why) (text : List ℕ) (left p : Option (List ℕ)) → n ≡ 0 → why ≡ Refused Memory → Tells refuses honest end n why text left p p
-never_began refuses honest end n why text left p zero is =
-    subst (λ k. Tells refuses honest end k why text left p p) (sym zero) (subst (λ w. Tells refuses honest end 0 w text left p p) (sym is) (not_begun refuses honest end text left p))
+pub never_began : (longest : ℕ) (refuses : Refusal → Type 0) (honest : Bool) (end n : ℕ) (why : Why) (text : List ℕ) (left p : Option (List ℕ)) → n ≡ 0 → why ≡ Refused Memory → Tells longest refuses honest end n why text left p p
+never_began longest refuses honest end n why text left p zero is =
+    subst (λ k. Tells longest refuses honest end k why text left p p) (sym zero) (subst (λ w. Tells longest refuses honest end 0 w text left p p) (sym is) (not_begun longest refuses honest end text left p))
 
 empty_of : (n : Option (List ℕ)) (ys : List ℕ) → n ≡ Some ys → IsAtEnd n → ys ≡ []
 empty_of n ys e h = subst IsAtEnd e h

@@ -129,9 +129,9 @@ all_taken honest end bytes eaten rest a lines part new count p q is d kept =
     subst (λ n. Did honest end bytes a (state lines n count) p q) (sym kept) (subst (λ b. Did honest end b a (state lines (part ++ rest) count) p q) (sym is) all)
 
 -- a line isn't taken
-pub stopped_at : (refuses : Refusal → Type 0) (honest : Bool) (end : ℕ) (bytes eaten rest : List ℕ) (a : State) (lines : LineSet) (part : List ℕ) (count n : ℕ) (why : Why) (p q r : List ℕ) →
-    bytes ≡ eaten ++ rest → Did honest end eaten a (state lines part count) p q → n ≡ count → r ≡ q → IsWhyHalt refuses end (state lines (part ++ rest) count) why → Stopped refuses honest end bytes a n why p r
-stopped_at refuses honest end bytes eaten rest a lines part count n why p q r is d counted same cause =
+pub stopped_at : (longest : ℕ) (refuses : Refusal → Type 0) (honest : Bool) (end : ℕ) (bytes eaten rest : List ℕ) (a : State) (lines : LineSet) (part : List ℕ) (count n : ℕ) (why : Why) (p q r : List ℕ) →
+    bytes ≡ eaten ++ rest → Did honest end eaten a (state lines part count) p q → n ≡ count → r ≡ q → IsWhyHalt longest refuses end (state lines (part ++ rest) count) why → Stopped longest refuses honest end bytes a n why p r
+stopped_at longest refuses honest end bytes eaten rest a lines part count n why p q r is d counted same cause =
     let all : Did honest end bytes a (state lines (part ++ rest) count) p q = all_taken honest end bytes eaten rest a lines part (part ++ rest) count p q is d refl in
     record {
       now = state lines (part ++ rest) count;

@@ -54,20 +54,20 @@ pub record Did (honest : Bool) (end : ℕ) (bytes : List ℕ) (old new : State) 
   pub out : after ≡ before ++ text_of end kept
 
 -- the next line isn't taken, of which `begun` came; the output's own fault may come whatever was taken
-abbrev pub IsWhyHalt : (Refusal → Type 0) → ℕ → State → Why → Type 0
-IsWhyHalt refuses end s Done = ⊥
-IsWhyHalt refuses end s (Refused why) =
-    (why ≡ Memory) ⊎ ((begun : List ℕ) × (more : List ℕ) × (s.part ≡ begun ++ more) × IsPlain end begun × (0 < length s.part) × IsWhyNot refuses (length begun) why)
-IsWhyHalt refuses end s (Input e) = ⊥
-IsWhyHalt refuses end s (Output e) = ⊤
-IsWhyHalt refuses end s TooMany = 18446744073709551615 ≤ s.count
+abbrev pub IsWhyHalt : ℕ → (Refusal → Type 0) → ℕ → State → Why → Type 0
+IsWhyHalt longest refuses end s Done = ⊥
+IsWhyHalt longest refuses end s (Refused why) =
+    (why ≡ Memory) ⊎ ((begun : List ℕ) × (more : List ℕ) × (s.part ≡ begun ++ more) × IsPlain end begun × (0 < length s.part) × IsWhyNot longest refuses (length begun) why)
+IsWhyHalt longest refuses end s (Input e) = ⊥
+IsWhyHalt longest refuses end s (Output e) = ⊤
+IsWhyHalt longest refuses end s TooMany = 18446744073709551615 ≤ s.count
 
 -- not more was done of these bytes than so many lines
-pub record Stopped (refuses : Refusal → Type 0) (honest : Bool) (end : ℕ) (bytes : List ℕ) (old : State) (count : ℕ) (why : Why) (before after : List ℕ) : Type 0 where
+pub record Stopped (longest : ℕ) (refuses : Refusal → Type 0) (honest : Bool) (end : ℕ) (bytes : List ℕ) (old : State) (count : ℕ) (why : Why) (before after : List ℕ) : Type 0 where
   pub now : State
   pub counted : now.count ≡ count
   pub did : Did honest end bytes old now before after
-  pub cause : IsWhyHalt refuses end now why
+  pub cause : IsWhyHalt longest refuses end now why
 
 -- the same, and what was to be written was
 pub record Wrote (honest : Bool) (end : ℕ) (bytes : List ℕ) (old new : State) (before after : Option (List ℕ)) : Type 0 where
@@ -83,9 +83,9 @@ Leaves (Input e) printed before after = Appends before after printed
 Leaves (Output e) printed before after = (k : ℕ) × Appends before after (take k printed)
 Leaves TooMany printed before after = Appends before after printed
 
-pub record Halted (refuses : Refusal → Type 0) (honest : Bool) (end : ℕ) (bytes : List ℕ) (old : State) (count : ℕ) (why : Why) (before after : Option (List ℕ)) : Type 0 where
+pub record Halted (longest : ℕ) (refuses : Refusal → Type 0) (honest : Bool) (end : ℕ) (bytes : List ℕ) (old : State) (count : ℕ) (why : Why) (before after : Option (List ℕ)) : Type 0 where
   pub printed : List ℕ
-  pub stopped : Stopped refuses honest end bytes old count why [] printed
+  pub stopped : Stopped longest refuses honest end bytes old count why [] printed
   pub leaves : Leaves why printed before after
 
 -- so many bytes of a text are done, in so many reads at most, and these are left
@@ -111,10 +111,10 @@ IsOver (Output e) = ⊤
 IsOver TooMany = ⊥
 
 -- the text has ended: its last line was taken, or the run halted there
-pub record Finished (refuses : Refusal → Type 0) (honest : Bool) (end : ℕ) (old : State) (n : ℕ) (why : Why) (before after : Option (List ℕ)) : Type 0 where
+pub record Finished (longest : ℕ) (refuses : Refusal → Type 0) (honest : Bool) (end : ℕ) (old : State) (n : ℕ) (why : Why) (before after : Option (List ℕ)) : Type 0 where
   pub ended : List (List ℕ)
   pub kept : List (List ℕ)
-  pub which : ((ended ≡ last_of old.part) × IsOver why) ⊎ ((ended ≡ []) × IsWhyHalt refuses end old why)
+  pub which : ((ended ≡ last_of old.part) × IsOver why) ⊎ ((ended ≡ []) × IsWhyHalt longest refuses end old why)
   pub count : n ≡ old.count + length ended
   pub some : IsPartOf kept ended
   pub exact : honest ≡ true → kept ≡ news end old.lines ended

@@ -9,9 +9,9 @@ use Rattle.far_firsts.specs.declared.end.Why.{Why}
 
 -- of the first n lines of a text some were printed, in their order, each with an end, and nothing else; or a part of that from its
 -- beginning, if the output couldn't be written. Where the far side is honest, these are the first of each kind. `left` wasn't read
-pub record Tells (refuses : Refusal → Type 0) (honest : Bool) (end n : ℕ) (why : Why) (text : List ℕ) (left before after : Option (List ℕ)) : Type 0 where
+pub record Tells (longest : ℕ) (refuses : Refusal → Type 0) (honest : Bool) (end n : ℕ) (why : Why) (text : List ℕ) (left before after : Option (List ℕ)) : Type 0 where
   pub count : n ≤ length (lines_of end text)
-  pub cause : IsCause refuses end n why text left
+  pub cause : IsCause longest refuses end n why text left
   pub printed : List (List ℕ)
   pub some : IsPartOf printed (take n (lines_of end text))
   pub exact : honest ≡ true → printed ≡ firsts (take n (lines_of end text))

@@ -16,6 +16,7 @@ use memchr::memchr;
 pub fn take_bytes<O: Objects + Drop>(
     seen: &mut Seen<O>,
     end: u8,
+    longest: usize,
     bytes: &[u8],
     midst: &mut Midst,
 ) -> Result<(), Why>
@@ -23,17 +24,17 @@ pub fn take_bytes<O: Objects + Drop>(
     ensures honest { seen.new.honest ≡ seen.old.honest }
     ensures plain { OnOk result (IsPlain end midst.new.part.items) }
     ensures did { OnOk result (Did seen.old.honest end bytes.now (state seen.old.lines midst.old.part.items midst.old.count) (state seen.new.lines midst.new.part.items midst.new.count) midst.old.out.items midst.new.out.items) }
-    ensures stopped { IfErr result (λ why. Stopped (Refuses O.unmade O.unreached seen.old.honest) seen.old.honest end bytes.now (state seen.old.lines midst.old.part.items midst.old.count) midst.new.count why midst.old.out.items midst.new.out.items) }
+    ensures stopped { IfErr result (λ why. Stopped longest (Refuses O.unmade O.unreached seen.old.honest) seen.old.honest end bytes.now (state seen.old.lines midst.old.part.items midst.old.count) midst.new.count why midst.old.out.items midst.new.out.items) }
 {
     let mut rest = bytes;
     while let Some(i) = memchr(end, rest) {
-        match take_end(seen, end, &rest[..i], midst) {
+        match take_end(seen, end, longest, &rest[..i], midst) {
             Ok(()) => {}
             Err(why) => return Err(why),
         }
         rest = &rest[i + 1..];
     }
-    match keep(&mut midst.part, rest) {
+    match keep(&mut midst.part, longest, rest) {
         Ok(()) => Ok(()),
         Err(why) => Err(Why::Refused(why)),
     }

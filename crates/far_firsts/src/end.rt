@@ -8,7 +8,7 @@ use std::io;
 pub enum Why {
     /// The input did.
     Done,
-    /// The line with this number, counted from 0, was refused; [`Refused::Length`]: it has more than 4,088 bytes.
+    /// The line with this number, counted from 0, was refused; [`Refused::Length`]: it is longer than a line may be.
     Refused(Refused),
     /// The input can't be read.
     Input(io::Error),

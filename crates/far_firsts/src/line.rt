@@ -1,14 +1,13 @@
 //! One line.
 
 ghost use Rattle.std.specs.Prelude.{◌≡◌, ◌+◌, ◌<◌, ◌++◌, ◌∷◌, ◌⊎◌, [], IfErr, OnOk, OnErr, length};
-ghost use Rattle.far_objects.specs.declared.objects.TheConstants.{MOST as most};
 ghost use Rattle.far_firsts.specs.Lines.{key_in};
-ghost use Rattle.far_firsts.specs.Causes.{IsWhyLine, IsWhyNext, Refuses};
+ghost use Rattle.far_firsts.specs.Causes.{IsWhyNext, Refuses};
 ghost use Rattle.far_firsts.specs.Doing.{Added};
 
 use crate::end::Why;
 use crate::midst::Midst;
-use far_objects::{MOST, Objects};
+use far_objects::Objects;
 use far_seen::Seen;
 use far_word::Refused;
 use std::alloc::AllocError;
@@ -49,7 +48,7 @@ fn take_line<O: Objects + Drop>(
     ensures honest { seen.new.honest ≡ seen.old.honest }
     ensures added { OnOk result (Added seen.old.honest end seen.old.lines seen.new.lines line.now out.old.items out.new.items) }
     ensures refused { OnErr result (out.new.items ≡ out.old.items) }
-    ensures why { IfErr result (IsWhyLine (Refuses O.unmade O.unreached seen.old.honest) (length line.now)) }
+    ensures why { IfErr result (λ why. (why ≡ Refused.Memory) ⊎ Refuses O.unmade O.unreached seen.old.honest why) }
 {
     let ends = [end];
     match seen.first(key(line, &ends)) {
@@ -62,12 +61,12 @@ fn take_line<O: Objects + Drop>(
     }
 }
 
-/// Keeps bytes of a line whose end hasn't come.
-pub fn keep(part: &mut Vec<u8>, piece: &[u8]) -> Result<(), Refused>
+/// Keeps bytes of a line whose end hasn't come, which has at most `longest`.
+pub fn keep(part: &mut Vec<u8>, longest: usize, piece: &[u8]) -> Result<(), Refused>
     ensures kept { OnOk result (part.new.items ≡ part.old.items ++ piece.now) }
-    ensures why { IfErr result (λ why. (why ≡ Refused.Memory) ⊎ ((why ≡ Refused.Length) × (most < length part.old.items + length piece.now))) }
+    ensures why { IfErr result (λ why. (why ≡ Refused.Memory) ⊎ ((why ≡ Refused.Length) × (longest < length part.old.items + length piece.now))) }
 {
-    if piece.len() > MOST || part.len() > MOST - piece.len() {
+    if piece.len() > longest || part.len() > longest - piece.len() {
         return Err(Refused::Length);
     }
     match part.extend_from_slice(piece) {
@@ -80,6 +79,7 @@ pub fn keep(part: &mut Vec<u8>, piece: &[u8]) -> Result<(), Refused>
 pub fn take_end<O: Objects + Drop>(
     seen: &mut Seen<O>,
     end: u8,
+    longest: usize,
     piece: &[u8],
     midst: &mut Midst,
 ) -> Result<(), Why>
@@ -89,12 +89,12 @@ pub fn take_end<O: Objects + Drop>(
     ensures count { OnOk result (midst.new.count ≡ midst.old.count + 1) }
     ensures out { OnErr result (midst.new.out.items ≡ midst.old.out.items) }
     ensures counted { OnErr result (midst.new.count ≡ midst.old.count) }
-    ensures why { IfErr result (IsWhyNext (Refuses O.unmade O.unreached seen.old.honest) midst.old.count (length (midst.old.part.items ++ piece.now))) }
+    ensures why { IfErr result (IsWhyNext longest (Refuses O.unmade O.unreached seen.old.honest) midst.old.count (length (midst.old.part.items ++ piece.now))) }
 {
     if midst.count == u64::MAX {
         return Err(Why::TooMany);
     }
-    if let Err(why) = keep(&mut midst.part, piece) {
+    if let Err(why) = keep(&mut midst.part, longest, piece) {
         return Err(Why::Refused(why));
     }
     match take_line(seen, end, midst.part.as_slice(), &mut midst.out) {

@@ -17,33 +17,41 @@ use far_word::Refused;
 use std::alloc::{AllocError, Global};
 use std::io::{Read, Write};
 
-/// How many bytes are read at once. So many and 4,089 more are written at once.
+/// How many bytes are read at once. So many, those of a line and an end are written at once.
 const READ: usize = 65_536;
-
-const ROOM: usize = 69_625;
 
 /// Prints each line of the input the first time it comes, and an end after each; what was read at once is written before more is read.
 ///
-/// `end` ends a line; what follows the last one is a line too, if it has bytes, and gets an end. A line has at most 4,088 bytes: a longer
-/// one is refused [`Refused::Length`], and what came before is printed then. Over a far side that lies a line may be printed again, or not at
-/// all; whole lines of the input are printed, in its order, and nothing else.
+/// `end` ends a line; what follows the last one is a line too, if it has bytes, and gets an end. A line may have `longest` bytes, which
+/// lie near until it is printed: twice so many are asked for, and those are used that lines have. A longer one is refused
+/// [`Refused::Length`], and what came before is printed then. Over a far side that lies a line may be printed again, or not at all; whole
+/// lines of the input are printed, in its order, and nothing else.
 pub fn uniq<O: Objects + Drop, R: Read, W: Write>(
     alloc: Global,
     seen: &mut Seen<O>,
     end: u8,
+    longest: usize,
     input: &mut R,
     output: &mut W,
 ) -> End
     requires { seen.old.lines ≡ set.empty }
-    ensures { IfSome (R.remaining input.old) (λ text. Tells (Refuses O.unmade O.unreached seen.old.honest) seen.old.honest end result.lines result.why text (R.remaining input.new) (W.contents output.old) (W.contents output.new)) }
+    ensures { IfSome (R.remaining input.old) (λ text. Tells longest (Refuses O.unmade O.unreached seen.old.honest) seen.old.honest end result.lines result.why text (R.remaining input.new) (W.contents output.old) (W.contents output.new)) }
 {
-    let Ok(mut midst) = Midst::new(alloc, ROOM) else {
+    let Ok(mut midst) = Midst::new(alloc, longest, READ) else {
         return no_room();
     };
     let Ok(mut room) = zeros(alloc, READ) else {
         return no_room();
     };
-    run(seen, end, input, output, room.as_mut_slice(), &mut midst)
+    run(
+        seen,
+        end,
+        longest,
+        input,
+        output,
+        room.as_mut_slice(),
+        &mut midst,
+    )
 }
 
 fn no_room() -> End
@@ -67,6 +75,7 @@ fn zeros(alloc: Global, len: usize) -> Result<Vec<u8>, AllocError>
 fn run<O: Objects + Drop, R: Read, W: Write>(
     seen: &mut Seen<O>,
     end: u8,
+    longest: usize,
     input: &mut R,
     output: &mut W,
     room: &mut [u8],
@@ -77,7 +86,7 @@ fn run<O: Objects + Drop, R: Read, W: Write>(
     requires out { midst.old.out.items ≡ [] }
     requires count { midst.old.count ≡ 0 }
     requires room { 0 < length room.old }
-    ensures { IfSome (R.remaining input.old) (λ text. Tells (Refuses O.unmade O.unreached seen.old.honest) seen.old.honest end result.lines result.why text (R.remaining input.new) (W.contents output.old) (W.contents output.new)) }
+    ensures { IfSome (R.remaining input.old) (λ text. Tells longest (Refuses O.unmade O.unreached seen.old.honest) seen.old.honest end result.lines result.why text (R.remaining input.new) (W.contents output.old) (W.contents output.new)) }
 {
     'reads: for turn in 0..u64::MAX {
         let count = match read_some(input, room) {
@@ -90,9 +99,9 @@ fn run<O: Objects + Drop, R: Read, W: Write>(
             }
         };
         if count == 0 {
-            return finish(seen, end, midst, output);
+            return finish(seen, end, longest, midst, output);
         }
-        match work(seen, end, &room[..count], midst, output) {
+        match work(seen, end, longest, &room[..count], midst, output) {
             Ok(()) => {}
             Err(why) => {
                 return End {
@@ -112,12 +121,13 @@ fn run<O: Objects + Drop, R: Read, W: Write>(
 fn finish<O: Objects + Drop, W: Write>(
     seen: &mut Seen<O>,
     end: u8,
+    longest: usize,
     midst: &mut Midst,
     output: &mut W,
 ) -> End
     requires out { midst.old.out.items ≡ [] }
     requires plain { IsPlain end midst.old.part.items }
-    ensures { Finished (Refuses O.unmade O.unreached seen.old.honest) seen.old.honest end (state seen.old.lines midst.old.part.items midst.old.count) result.lines result.why (W.contents output.old) (W.contents output.new) }
+    ensures { Finished longest (Refuses O.unmade O.unreached seen.old.honest) seen.old.honest end (state seen.old.lines midst.old.part.items midst.old.count) result.lines result.why (W.contents output.old) (W.contents output.new) }
 {
     if midst.part.is_empty() {
         return End {
@@ -125,7 +135,7 @@ fn finish<O: Objects + Drop, W: Write>(
             why: Why::Done,
         };
     }
-    match take_end(seen, end, b"", midst) {
+    match take_end(seen, end, longest, b"", midst) {
         Ok(()) => {}
         Err(why) => {
             return End {

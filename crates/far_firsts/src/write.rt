@@ -90,6 +90,7 @@ pub fn let_out<W: Write>(output: &mut W, out: &mut Vec<u8>) -> io::Result<()>
 pub fn work<O: Objects + Drop, W: Write>(
     seen: &mut Seen<O>,
     end: u8,
+    longest: usize,
     bytes: &[u8],
     midst: &mut Midst,
     output: &mut W,
@@ -100,9 +101,9 @@ pub fn work<O: Objects + Drop, W: Write>(
     ensures plain { OnOk result (IsPlain end midst.new.part.items) }
     ensures empty { midst.new.out.items ≡ [] }
     ensures wrote { OnOk result (Wrote seen.old.honest end bytes.now (state seen.old.lines midst.old.part.items midst.old.count) (state seen.new.lines midst.new.part.items midst.new.count) (W.contents output.old) (W.contents output.new)) }
-    ensures halted { IfErr result (λ why. Halted (Refuses O.unmade O.unreached seen.old.honest) seen.old.honest end bytes.now (state seen.old.lines midst.old.part.items midst.old.count) midst.new.count why (W.contents output.old) (W.contents output.new)) }
+    ensures halted { IfErr result (λ why. Halted longest (Refuses O.unmade O.unreached seen.old.honest) seen.old.honest end bytes.now (state seen.old.lines midst.old.part.items midst.old.count) midst.new.count why (W.contents output.old) (W.contents output.new)) }
 {
-    let taken = take_bytes(seen, end, bytes, midst);
+    let taken = take_bytes(seen, end, longest, bytes, midst);
     match let_out(output, &mut midst.out) {
         Ok(()) => taken,
         Err(e) => Err(Why::Output(e)),

@@ -2,3 +2,4 @@ pub mod Members
 pub mod Outcomes
 pub mod Told
 pub mod Wholes
+pub mod Longs

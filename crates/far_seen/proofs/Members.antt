@@ -1,15 +1,14 @@
 -- The set of the slots' lines, line by line.
-use Rattle.std.proofs.Common.{◌≡◌, ◌≢◌, ℕ, zero, suc, Bool, true, false, not, cond, ◌||◌, Option, Some, None, List, [], ◌∷◌, ◌++◌, ◌⊎◌, inl, inr, replicate, refl, sym, ◌∙◌, ap, subst}
+use Rattle.std.proofs.Common.{◌≡◌, ℕ, zero, suc, Bool, true, false, ◌||◌, Option, Some, None, List, [], ◌∷◌, ◌++◌, ◌⊎◌, inl, inr, refl, sym, ◌∙◌, ap, subst}
 use Rattle.std.specs.List.{list_any}
 use Rattle.std.specs.Option.{option_to_list}
 use Rattle.std.specs.Bool.{Decides}
 use Rattle.std.specs.Ordering.{nat_cmp, eq_by_cmp}
 use Rattle.std.specs.Cmp.Lexicographic.{slice_cmp, texts_ties, nat_list_cmp_total}
 use Rattle.std.specs.FinSet as set
-use Rattle.std.specs.Str.{bytes_eq}
 use Rattle.std.proofs.lemmas.Slice.Eq.{bytes_eq-Decides}
 use Rattle.far_index.specs.declared.slot.Slot.{Slot}
-use Rattle.far_index.specs.declared.slot.Slot.TheVariants.{Empty, Gone, Full}
+use Rattle.far_index.specs.declared.slot.Slot.TheVariants.{Empty}
 use Rattle.far_index.specs.Slots.{slot_at}
 use Rattle.far_seen.specs.Lines.{LineSet}
 use Rattle.far_seen.specs.Parts.{Bytes, line_in, line_at, lines_in}

@@ -1,10 +1,10 @@
 -- What the steps make of a set.
-use Rattle.std.proofs.Common.{◌≡◌, ◌≢◌, ℕ, zero, suc, ◌+◌, ◌<◌, ◌≤◌, Bool, true, false, cond, Option, Some, None, List, length, inl, inr, refl, sym, ◌∙◌, ap, subst, arith}
+use Rattle.std.proofs.Common.{◌≡◌, ◌≢◌, ℕ, ◌+◌, ◌<◌, ◌≤◌, Bool, true, false, cond, Option, Some, None, List, length, inl, inr, refl, sym, ◌∙◌, ap, subst, arith}
 use Rattle.std.proofs.lemmas.Bool.{cases_eq}
 use Rattle.std.specs.Bool.{Decides}
 use Rattle.std.specs.Cmp.Lexicographic.{nat_list_cmp_total}
 use Rattle.std.specs.FinSet as set
-use Rattle.far_objects.specs.Far.{Far, Makes}
+use Rattle.far_objects.specs.Far.{Far}
 use Rattle.far_index.specs.declared.slot.Slot.{Slot}
 use Rattle.far_index.specs.declared.slot.Slot.TheVariants.{Empty, Gone, Full}
 use Rattle.far_index.specs.Slots.{slot_at, Reached}
@@ -13,8 +13,8 @@ use Rattle.far_index.specs.Tags.{tag_of}
 use Rattle.far_index.proofs.Words.{full_tag, full_number}
 use Rattle.far_index.proofs.Reaching.{placed_reached, same_reached}
 use Rattle.far_index.proofs.Growth.{moved}
-use Rattle.far_seen.specs.Lines.{Lines, LineSet}
-use Rattle.far_seen.specs.Parts.{Bytes, Has, Plain, Sound, line_in, line_at, lines_in, lines_of}
+use Rattle.far_seen.specs.Stored.{Keeps, Put}
+use Rattle.far_seen.specs.Parts.{Bytes, Has, Plain, Sound, line_in, line_at, lines_of}
 use Rattle.far_seen.proofs.Members.{set_of, same_members, one_more, contains_mem}
 
 -- a slot with a line has a number
@@ -25,7 +25,7 @@ full_of b (Full t h) q e = (t, h, refl)
 
 -- ---- slots that say the same, and the same objects
 pub record Same (p n : Plain) : Type 0 where
-  pub far : n.far ≡ p.far
+  pub far : Keeps p.far n.far
   pub seed : n.seed ≡ p.seed
   pub slots : (j : ℕ) → slot_at n.slots j ≡ slot_at p.slots j
   pub longer : length p.slots ≤ length n.slots
@@ -33,14 +33,19 @@ pub record Same (p n : Plain) : Type 0 where
   pub count : n.count ≡ p.count
 
 module _ (p n : Plain) (sound : Sound p) (same : Same p n) where
+  same_in : (j : ℕ) (s : Slot) → slot_at p.slots j ≡ s → line_in n.far.bytes s ≡ line_in p.far.bytes s
+  same_in j Empty e = refl
+  same_in j Gone e = refl
+  same_in j (Full t h) e = let m = sound.held j t h e in same.far.bytes h m.0 m.1
+
   same_line : (j : ℕ) → line_at n.far.bytes n.slots j ≡ line_at p.far.bytes p.slots j
-  same_line j = λ i. line_in (same.far i).bytes (same.slots j i)
+  same_line j = ap (line_in n.far.bytes) (same.slots j) ∙ same_in j (slot_at p.slots j) refl
 
   same_set : set_of n.far.bytes n.slots ≡ set_of p.far.bytes p.slots
   same_set = same_members p.far.bytes n.far.bytes p.slots n.slots (λ q m. (m.0, same_line m.0 ∙ m.1)) (λ q m. (m.0, sym (same_line m.0) ∙ m.1))
 
   same_honest : n.far.honest ≡ p.far.honest
-  same_honest = ap (λ (f : Far). f.honest) same.far
+  same_honest = same.far.honest
 
   pub same_lines : lines_of n ≡ lines_of p
   same_lines = λ i. record { honest = same_honest i; lines = same_set i }
@@ -51,9 +56,11 @@ module _ (p n : Plain) (sound : Sound p) (same : Same p n) where
     fits = omega (arith, sound.fits, same.longer, same.buckets);
     reached = subst (λ k. Reached k n.slots) (sym same.buckets) (same_reached p.buckets p.slots n.slots same.slots sound.reached);
     apart = λ i j t u h a b. sound.apart i j t u h (sym (same.slots i) ∙ a) (sym (same.slots j) ∙ b);
-    held = λ j t h a. let m = sound.held j t h (sym (same.slots j) ∙ a) in (m.0, ap (λ (f : Far). f.sizes h) same.far ∙ m.1);
+    held = λ j t h a. let m = sound.held j t h (sym (same.slots j) ∙ a) in (m.0, same.far.sizes h m.0 m.1);
     tagged = λ o j t h q a has.
-        sound.tagged (sym same_honest ∙ o) j t h q (sym (same.slots j) ∙ a) (ap (λ (f : Far). f.bytes h) (sym same.far) ∙ has) ∙ ap (λ s. tag_of s q) (sym same.seed);
+        let was = sym (same.slots j) ∙ a in
+        let m = sound.held j t h was in
+        sound.tagged (sym same_honest ∙ o) j t h q was (sym (same.far.bytes h m.0 m.1) ∙ has) ∙ ap (λ s. tag_of s q) (sym same.seed);
     distinct = λ o i j q a b. sound.distinct (sym same_honest ∙ o) i j q (sym (same_line i) ∙ a) (sym (same_line j) ∙ b);
     counted = λ o. same.count ∙ sound.counted (sym same_honest ∙ o) ∙ ap set.len (sym same_set);
   }
@@ -69,22 +76,22 @@ is_false : (b : Bool) (P : Type 0) → Decides b P → (P → ⊥) → b ≡ fal
 is_false true P d none = absurd (none (d.0 refl))
 is_false false P d none = refl
 
-module _ (p : Plain) (g : Far) (ts : List Slot) (tag number : ℕ) (line : List ℕ) (sound : Sound p) (placed : Placed p.buckets tag number p.slots ts) (makes : Makes number line p.far g)
+module _ (p : Plain) (g : Far) (ts : List Slot) (tag number : ℕ) (line : List ℕ) (sound : Sound p) (placed : Placed p.buckets tag number p.slots ts) (put : Put number line p.far g)
     (tagged : tag ≡ tag_of p.seed line) (absent : p.far.honest ≡ true → Has p.far.bytes p.slots line → ⊥) where
   -- numbers of other slots are other numbers
   other_number : (j t h : ℕ) → slot_at p.slots j ≡ Full t h → h ≢ number
-  other_number j t h e same = let n = sound.held j t h e in none_size n.0 (p.far.sizes number) makes.fresh (ap p.far.sizes (sym same) ∙ n.1)
+  other_number j t h e same = let n = sound.held j t h e in none_size n.0 (p.far.sizes number) put.fresh (ap p.far.sizes (sym same) ∙ n.1)
 
   old_line : (j : ℕ) (s : Slot) → slot_at p.slots j ≡ s → line_in g.bytes s ≡ line_in p.far.bytes s
   old_line j Empty e = refl
   old_line j Gone e = refl
-  old_line j (Full t h) e = makes.others.bytes h (other_number j t h e)
+  old_line j (Full t h) e = let n = sound.held j t h e in put.keeps.bytes h n.0 n.1
 
   other_line : (j : ℕ) → j ≢ placed.place → line_at g.bytes ts j ≡ line_at p.far.bytes p.slots j
   other_line j ne = ap (line_in g.bytes) (placed.others j ne) ∙ old_line j (slot_at p.slots j) refl
 
   new_line : p.far.honest ≡ true → line_at g.bytes ts placed.place ≡ Some line
-  new_line o = ap (line_in g.bytes) placed.slot ∙ makes.bytes o
+  new_line o = ap (line_in g.bytes) placed.slot ∙ put.bytes o
 
   -- a slot that had a line isn't the place
   not_place : (j : ℕ) (q : List ℕ) → line_at p.far.bytes p.slots j ≡ Some q → j ≢ placed.place
@@ -146,24 +153,25 @@ module _ (p : Plain) (g : Far) (ts : List Slot) (tag number : ℕ) (line : List 
     reached = placed_reached p.buckets tag number p.slots ts placed sound.reached;
     apart = added_apart;
     held = λ j t h e. elim (cases_eq j placed.place) [
-      | inl same ↦ (length line, ap g.sizes (sym (full_number tag number t h (at_place j t h same e))) ∙ makes.size)
+      | inl same ↦ (length line, ap g.sizes (sym (full_number tag number t h (at_place j t h same e))) ∙ put.size)
       | inr ne ↦
           let was = sym (placed.others j ne) ∙ e in
           let n = sound.held j t h was in
-          (n.0, makes.others.sizes h (other_number j t h was) ∙ n.1)
+          (n.0, put.keeps.sizes h n.0 n.1)
     ];
     tagged = λ o j t h q e has.
-        let p1 : p.far.honest ≡ true = sym makes.others.honest ∙ o in
+        let p1 : p.far.honest ≡ true = sym put.keeps.honest ∙ o in
         elim (cases_eq j placed.place) [
           | inl same ↦
               let slots = at_place j t h same e in
-              sym (full_tag tag number t h slots) ∙ tagged ∙ ap (tag_of p.seed) (some_line line q (g.bytes number) (makes.bytes p1) (ap g.bytes (full_number tag number t h slots) ∙ has))
+              sym (full_tag tag number t h slots) ∙ tagged ∙ ap (tag_of p.seed) (some_line line q (g.bytes number) (put.bytes p1) (ap g.bytes (full_number tag number t h slots) ∙ has))
           | inr ne ↦
               let was = sym (placed.others j ne) ∙ e in
-              sound.tagged p1 j t h q was (sym (makes.others.bytes h (other_number j t h was)) ∙ has)
+              let n = sound.held j t h was in
+              sound.tagged p1 j t h q was (sym (put.keeps.bytes h n.0 n.1) ∙ has)
         ];
-    distinct = λ o. added_distinct (sym makes.others.honest ∙ o);
-    counted = λ o. added_count (sym makes.others.honest ∙ o);
+    distinct = λ o. added_distinct (sym put.keeps.honest ∙ o);
+    counted = λ o. added_count (sym put.keeps.honest ∙ o);
   }
 
 -- ---- an index made anew

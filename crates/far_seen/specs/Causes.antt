@@ -1,9 +1,12 @@
 -- Why a line wasn't put: by what the worker may say.
-use Rattle.std.specs.Prelude.{◌≡◌, ◌⊎◌, Bool, true, false}
+use Rattle.std.specs.Prelude.{◌≡◌, ◌⊎◌, ◌<◌, ℕ, Bool, false}
 use Rattle.far_word.specs.declared.refused.Refused.{Refused}
-use Rattle.far_word.specs.declared.refused.Refused.TheVariants.{Length, Memory}
+use Rattle.far_word.specs.declared.refused.Refused.TheVariants.{Damaged, Length, Memory}
 
--- the line has no room in an object, or is empty; or an object wasn't made or reached, or there was no memory
-abbrev pub IsWhyPut : (Refused → Type 0) → (Bool → Refused → Type 0) → Bool → Bool → Refused → Type 0
-IsWhyPut unmade unreached honest true why = (why ≡ Memory) ⊎ (unmade why ⊎ unreached honest why)
-IsWhyPut unmade unreached honest false why = why ≡ Length
+-- an object wasn't reached, or there was no memory; or it has other bytes than were put, which none has where the far side is honest
+abbrev pub IsWhyUnread : (Bool → Refused → Type 0) → Bool → Refused → Type 0
+IsWhyUnread unreached honest why = (why ≡ Memory) ⊎ (unreached honest why ⊎ ((why ≡ Damaged) × (honest ≡ false)))
+
+-- the line is empty; or an object wasn't made, or wasn't read
+abbrev pub IsWhyPut : (Refused → Type 0) → (Bool → Refused → Type 0) → Bool → ℕ → Refused → Type 0
+IsWhyPut unmade unreached honest len why = ((why ≡ Length) × (len ≡ 0)) ⊎ ((0 < len) × (unmade why ⊎ IsWhyUnread unreached honest why))

@@ -3,6 +3,8 @@
 
 mod near;
 mod parts;
+mod place;
+mod read;
 mod seen;
 mod steps;
 

@@ -1,13 +1,12 @@
 //! The set.
 
-ghost use Rattle.std.specs.Prelude.{◌≡◌, ◌<◌, true, false, not, Err, IfOk, IfErr, OnOk, OnErr, length};
+ghost use Rattle.std.specs.Prelude.{◌≡◌, ◌<◌, true, not, Err, IfOk, IfErr, OnOk, OnErr, length};
 ghost use Rattle.std.specs.FinSet as set;
 ghost use Rattle.far_word.specs.declared.refused.Refused.TheVariants.{Length, Memory};
-ghost use Rattle.far_objects.specs.Far.{is_length};
 ghost use Rattle.far_seen.specs.Causes.{IsWhyPut};
 
 use crate::near::Near;
-use crate::parts::Parts;
+use crate::parts::{Parts, Store};
 use crate::steps::{add, find, make_roomy};
 use far_index::{Index, seeded, slots_for, tag_of_key};
 use far_objects::{MOST, Objects};
@@ -15,7 +14,8 @@ use far_word::Refused;
 use std::alloc::Global;
 use std::marker::Model;
 
-/// A set of lines of 1 to 4,088 bytes, which are the objects of its worker. Near it has 10 bytes a slot.
+/// A set of lines of one byte or more. One of up to 4,088 bytes is an object of its worker, a longer one several. Near it has 10 bytes a
+/// slot, and for each long line some 100, and 4 for each of its objects.
 #[derive(Drop)]
 pub struct Seen<O: Objects + Drop> {
     parts: Parts<O>,
@@ -24,14 +24,15 @@ pub struct Seen<O: Objects + Drop> {
 impl<O: Objects + Drop> Model for Seen<O> {
     ghost use Rattle.far_seen.specs.Lines.{Lines, lines_code};
     ghost use Rattle.far_seen.specs.Parts.{Sound, plain, lines_of};
+    ghost use Rattle.far_seen.specs.Stored.{Stored, with_longs};
 
     ghost Value = { Lines };
 
     ghost coded = { lines_code };
 
-    ghost view = { λ s. lines_of (plain (O.far s.parts.worker) s.parts.near) };
+    ghost view = { λ s. lines_of (plain (with_longs (O.far s.parts.store.worker) s.parts.store.longs.items) s.parts.near) };
 
-    ghost invariant = { λ s. Sound (plain (O.far s.parts.worker) s.parts.near) };
+    ghost invariant = { λ s. Stored (O.far s.parts.store.worker) s.parts.store.longs.items × Sound (plain (with_longs (O.far s.parts.store.worker) s.parts.store.longs.items) s.parts.near) };
 }
 
 /// How many lines an index begins with room for.
@@ -51,18 +52,31 @@ impl<O: Objects + Drop> Seen<O> {
         ensures empty { IfOk result (λ s. s.lines ≡ set.empty) }
         ensures why { IfErr result (λ why. why ≡ Memory) }
     {
-        match Seen::with_room(alloc, worker, seed, LINES) {
-            Ok(seen) => Ok(seen),
-            Err(why) => Err(why),
-        }
+        Seen::roomy(alloc, worker, seed, LINES, usize::MAX)
     }
 
-    /// The same, with an index that has room for so many lines before it is made anew, twice as large: 12 bytes a line.
+    /// The same, with an index that has room for so many lines, 12 bytes each; it takes no more. A line above 4,088 bytes counts as many
+    /// as it has objects, and 4.
     pub fn with_room(
         alloc: Global,
         worker: O,
         seed: [u8; 16],
         lines: usize,
+    ) -> Result<Seen<O>, Refused>
+        ensures honest { IfOk result (λ s. s.honest ≡ (O.far worker).honest) }
+        ensures empty { IfOk result (λ s. s.lines ≡ set.empty) }
+        ensures why { IfErr result (λ why. why ≡ Memory) }
+    {
+        Seen::roomy(alloc, worker, seed, lines, lines)
+    }
+
+    // An index for so many lines, and how many there may be.
+    fn roomy(
+        alloc: Global,
+        worker: O,
+        seed: [u8; 16],
+        lines: usize,
+        room: usize,
     ) -> Result<Seen<O>, Refused>
         ensures honest { IfOk result (λ s. s.honest ≡ (O.far worker).honest) }
         ensures empty { IfOk result (λ s. s.lines ≡ set.empty) }
@@ -75,6 +89,7 @@ impl<O: Objects + Drop> Seen<O> {
         let Ok(buffer) = Vec::with_capacity(alloc, MOST) else {
             return Err(Refused::Memory);
         };
+        let longs = Vec::new(alloc);
         let near = Near {
             slots,
             buckets,
@@ -83,10 +98,14 @@ impl<O: Objects + Drop> Seen<O> {
         };
         Ok(Seen {
             parts: Parts {
-                worker,
+                store: Store {
+                    worker,
+                    longs,
+                    room,
+                    buffer,
+                    alloc,
+                },
                 near,
-                buffer,
-                alloc,
             },
         })
     }
@@ -98,20 +117,28 @@ impl<O: Objects + Drop> Seen<O> {
         self.parts.near.count
     }
 
+    /// Its worker.
+    pub fn worker(&self) -> &O
+        ensures { (O.far result.now).honest ≡ self.now.honest }
+    {
+        &self.parts.store.worker
+    }
+
     /// Puts a line. Whether it is the first of its kind. A line that wasn't there costs no far read, unless another one has its tag of 48
     /// bits and its length.
     ///
-    /// Refused: [`Refused::Length`] exactly where it hasn't 1 to 4,088 bytes; [`Refused::Memory`] where the index can't grow; or as the
-    /// worker refuses to read or to make an object. Then the set is as it was.
+    /// Refused: [`Refused::Length`] exactly where it has no byte; [`Refused::Memory`] where the index can't grow, or there is no more near
+    /// room for long lines; [`Refused::Damaged`] where a line was read that hasn't the tag of what was put, as none of an honest far side; or
+    /// as the worker refuses to read or to make an object. Then the set is as it was.
     pub fn first(&mut self, line: &[u8]) -> Result<bool, Refused>
         ensures honest { self.new.honest ≡ self.old.honest }
         ensures first { self.old.honest ≡ true → IfOk result (λ new. new ≡ not (set.contains self.old.lines line.now)) }
         ensures put { self.old.honest ≡ true → OnOk result (self.new.lines ≡ set.insert self.old.lines line.now) }
         ensures refused { OnErr result (self.new ≡ self.old) }
-        ensures long { is_length (length line.now) ≡ false → result ≡ Err Length }
-        ensures why { IfErr result (IsWhyPut O.unmade O.unreached self.old.honest (is_length (length line.now))) }
+        ensures none { length line.now ≡ 0 → result ≡ Err Length }
+        ensures why { IfErr result (IsWhyPut O.unmade O.unreached self.old.honest (length line.now)) }
     {
-        if line.is_empty() || line.len() > MOST {
+        if line.is_empty() {
             return Err(Refused::Length);
         }
         let tag = tag_of_key(&self.parts.near.seed, line);
@@ -122,7 +149,7 @@ impl<O: Objects + Drop> Seen<O> {
         }
         match add(&mut self.parts, tag, line) {
             Ok(()) => {
-                make_roomy(self.parts.alloc, &mut self.parts.near);
+                make_roomy(self.parts.store.alloc, &mut self.parts.near);
                 Ok(true)
             }
             Err(why) => Err(why),

@@ -109,6 +109,8 @@ pub(crate) struct Side {
     pub room: usize,
     /// Each call of so many is refused; 0: none.
     pub every: u64,
+    /// How many bytes a line may have.
+    pub longest: usize,
 }
 
 /// Lines end in a newline, and nothing is refused.
@@ -116,6 +118,7 @@ pub(crate) const FREE: Side = Side {
     end: b'\n',
     room: 100_000,
     every: 0,
+    longest: 200_000,
 };
 
 /// A run over an empty set: how many lines came, and how it ended.
@@ -127,6 +130,6 @@ pub(crate) fn run(
 ) -> Result<(u64, Ending), Refused> {
     let double = Double::new(alloc, true, side.room, side.every);
     let mut seen = Seen::new(alloc, double, SEED)?;
-    let end: End = uniq(alloc, &mut seen, side.end, input, output);
+    let end: End = uniq(alloc, &mut seen, side.end, side.longest, input, output);
     Ok((end.lines, name_of(&end.why)))
 }

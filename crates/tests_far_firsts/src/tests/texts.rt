@@ -55,6 +55,7 @@ fn lines_end_in_nul(rt: HostRuntime) {
         end: 0,
         room: 3,
         every: 0,
+        longest: 3,
     };
     let row: Row = (b"a\n\0b\0a\n\0\0", b"a\n\0b\0\0", 4);
     assert!(rt; prints(rt.alloc(), side, 100, &row) == Ok(true));
@@ -64,47 +65,85 @@ fn lines_end_in_nul(rt: HostRuntime) {
 fn two_lines_have_one_tag(rt: HostRuntime) {
     let hasher = seeded(SEED);
     assert!(rt; tag_of_key(&hasher, b"11992950") == tag_of_key(&hasher, b"19817538"));
+    let (Ok(mut one), Ok(mut other)) = (
+        long(rt.alloc(), 4_096, b"09190745"),
+        long(rt.alloc(), 4_096, b"26097674"),
+    ) else {
+        return;
+    };
+    one.pop();
+    other.pop();
+    assert!(rt; one.len() == 4_096 && one.as_slice() != other.as_slice());
+    assert!(rt; tag_of_key(&hasher, one.as_slice()) == tag_of_key(&hasher, other.as_slice()));
 }
 
-// A line of so many bytes, with an end and without.
-fn long(alloc: Global, len: usize) -> Result<Vec<u8>, Refused> {
-    let Ok(mut text) = vec![in alloc; b'x'; len] else {
+// A line of so many bytes, of which the last ones are others, and an end.
+fn long(alloc: Global, len: usize, last: &[u8]) -> Result<Vec<u8>, Refused> {
+    let Ok(mut text) = vec![in alloc; b'x'; len.saturating_sub(last.len())] else {
         return Err(Refused::Memory);
     };
-    let Ok(()) = text.push(b'\n') else {
+    let (Ok(()), Ok(())) = (text.extend_from_slice(last), text.push(b'\n')) else {
         return Err(Refused::Memory);
     };
     Ok(text)
 }
 
-// Of a line of so many bytes, and one that comes after it: whether the first is printed, with an end or without; else the run ends at it.
-fn is_taken(alloc: Global, len: usize, few: usize, closed: usize) -> Result<bool, Refused> {
-    let text = long(alloc, len)?;
+/// How many bytes two lines have, how each ends, and which of the two is printed that come first, second, and once more in that order.
+type Long = (usize, &'static [u8], &'static [u8], usize);
+
+#[rattlefmt::skip]
+const LONG: &[Long] = &[
+    (4_087, b"a", b"a", 1), (4_087, b"a", b"b", 2),
+    (4_088, b"a", b"a", 1), (4_088, b"a", b"b", 2),
+    (4_089, b"a", b"a", 1), (4_089, b"a", b"b", 2),
+    (8_176, b"a", b"a", 1), (8_176, b"a", b"b", 2),
+    (8_177, b"a", b"a", 1), (8_177, b"a", b"b", 2),
+    (100_000, b"a", b"a", 1), (100_000, b"a", b"b", 2),
+    // They differ in their first part, and in their second one.
+    (8_177, b"a", &[b'y'; 8_000], 2), (12_264, b"a", &[b'y'; 5_000], 2),
+    // Two lines of one tag.
+    (4_096, b"09190745", b"26097674", 2),
+];
+
+// Whether these lines are printed, the last one with an end or without.
+fn takes(alloc: Global, few: usize, closed: bool, row: &Long) -> Result<bool, Refused> {
+    let first = long(alloc, row.0, row.1)?;
+    let second = long(alloc, row.0, row.2)?;
+    let mut text = Vec::new(alloc);
+    for line in [
+        first.as_slice(),
+        second.as_slice(),
+        first.as_slice(),
+        second.as_slice(),
+    ] {
+        let Ok(()) = text.extend_from_slice(line) else {
+            return Err(Refused::Memory);
+        };
+    }
+    if !closed {
+        text.pop();
+    }
     let mut input = Slow {
-        left: text
-            .as_slice()
-            .get(..len.saturating_add(closed))
-            .unwrap_or(&[]),
+        left: text.as_slice(),
         step: few,
         fails: 0,
         reads: 0,
     };
-    let mut output = Watched::new(alloc, 100_000, 100_000);
+    let mut output = Watched::new(alloc, 100_000, 400_000);
     let came = run(alloc, FREE, &mut input, &mut output)?;
-    if len > 4_088 {
-        return Ok(came == (0, Ending::Long) && output.out.is_empty());
-    }
-    Ok(came == (1, Ending::Done) && output.out.as_slice() == text.as_slice())
+    let wanted = text.as_slice().get(..first.len().saturating_mul(row.3));
+    Ok(came == (4, Ending::Done) && wanted == Some(output.out.as_slice()))
 }
 
 #[test]
-fn a_line_has_4088_bytes_at_most(rt: HostRuntime) {
-    for len in [4_087usize, 4_088, 4_089, 70_000] {
+fn long_lines_are_printed_once(rt: HostRuntime) {
+    for row in LONG {
         for few in [1_000usize, 4_088, 100_000] {
-            for closed in [0usize, 1] {
+            for closed in [true, false] {
                 assert!(rt;
-                    is_taken(rt.alloc(), len, few, closed) == Ok(true),
-                    "{len} {few} {closed}"
+                    takes(rt.alloc(), few, closed, row) == Ok(true),
+                    "{} {few} {closed}",
+                    row.0
                 );
             }
         }

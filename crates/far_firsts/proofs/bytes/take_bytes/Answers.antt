@@ -41,13 +41,13 @@ returns-in-Err-clause-stopped g c =
     let rest = c.loop-i.rest.now in
     let piece = take c.in-Some.i rest in
     let refuses = Refuses g.O.Objects.unmade g.O.Objects.unreached in
-    stopped_at (refuses c.args.seen.now.honest) c.args.seen.now.honest c.args.end c.args.bytes.now so.0 rest (state c.args.seen.now.lines c.args.midst.now.part.items c.args.midst.now.count)
+    stopped_at c.args.longest (refuses c.args.seen.now.honest) c.args.seen.now.honest c.args.end c.args.bytes.now so.0 rest (state c.args.seen.now.lines c.args.midst.now.part.items c.args.midst.now.count)
     c.loop-i.seen.lines c.loop-i.midst.part.items c.loop-i.midst.count
     c.take_end.new.midst.count c.in-Err.why c.args.midst.now.out.items c.loop-i.midst.out.items c.take_end.new.midst.out.items so.1 so.2 c.in-Err.ensures.counted c.in-Err.ensures.out
-    (end_halts (refuses c.args.seen.now.honest) c.args.end c.loop-i.seen.lines c.loop-i.midst.part.items piece c.loop-i.midst.count c.loop-i.invariant.plain
+    (end_halts c.args.longest (refuses c.args.seen.now.honest) c.args.end c.loop-i.seen.lines c.loop-i.midst.part.items piece c.loop-i.midst.count c.loop-i.invariant.plain
     (plain_to c.args.end rest c.in-Some.i (omega (arith, c.in-Some.ensures.0.high)) c.in-Some.ensures.0.before)
     rest (drop (c.in-Some.i + 1) rest) c.in-Err.why (cut_at c.args.end c.in-Some.i rest c.in-Some.ensures.0.high c.in-Some.ensures.1)
-    (subst (λ (t : Bool). IsWhyNext (refuses t) c.loop-i.midst.count (length (c.loop-i.midst.part.items ++ piece)) c.in-Err.why) c.loop-i.invariant.honest c.in-Err.ensures.why))
+    (subst (λ (t : Bool). IsWhyNext c.args.longest (refuses t) c.loop-i.midst.count (length (c.loop-i.midst.part.items ++ piece)) c.in-Err.why) c.loop-i.invariant.honest c.in-Err.ensures.why))
 
 pub returns-in-Ok-keep : goal.returns-in-Ok-keep
 returns-in-Ok-keep g c =
@@ -63,8 +63,8 @@ returns-in-Ok-keep g c =
 pub returns-in-Err-keep-clause-stopped : goal.returns-in-Err-keep-clause-stopped
 returns-in-Err-keep-clause-stopped g c =
     let so = c.loop-i.invariant.so in
-    stopped_at (Refuses g.O.Objects.unmade g.O.Objects.unreached c.args.seen.now.honest) c.args.seen.now.honest c.args.end c.args.bytes.now so.0 c.loop-i.rest.now (state c.args.seen.now.lines c.args.midst.now.part.items c.args.midst.now.count)
+    stopped_at c.args.longest (Refuses g.O.Objects.unmade g.O.Objects.unreached c.args.seen.now.honest) c.args.seen.now.honest c.args.end c.args.bytes.now so.0 c.loop-i.rest.now (state c.args.seen.now.lines c.args.midst.now.part.items c.args.midst.now.count)
     c.loop-i.seen.lines c.loop-i.midst.part.items c.loop-i.midst.count
     c.loop-i.midst.count _ c.args.midst.now.out.items c.loop-i.midst.out.items c.loop-i.midst.out.items so.1 so.2 refl refl
-    (keep_halts (Refuses g.O.Objects.unmade g.O.Objects.unreached c.args.seen.now.honest) c.args.end c.loop-i.seen.lines c.loop-i.midst.part.items c.loop-i.rest.now c.loop-i.midst.count c.loop-i.invariant.plain
+    (keep_halts c.args.longest (Refuses g.O.Objects.unmade g.O.Objects.unreached c.args.seen.now.honest) c.args.end c.loop-i.seen.lines c.loop-i.midst.part.items c.loop-i.rest.now c.loop-i.midst.count c.loop-i.invariant.plain
     (all_plain c.args.end c.loop-i.rest.now c.in_default.ensures) c.in-Err-keep.why c.in-Err-keep.ensures.why)

@@ -42,7 +42,7 @@ returns-in-Err g c =
     let b = state c.reads.seen.lines c.reads.midst.part.items c.reads.midst.count in
     each (g.R.Read.remaining c.args.input.now) _ _ (λ text went.
     fails c.args.seen.now.honest c.args.end c.reads.turn text a b (g.R.Read.remaining c.reads.input) (g.W.Write.contents c.args.output.now) (g.W.Write.contents c.reads.output) went
-    (Refuses g.O.Objects.unmade g.O.Objects.unreached c.args.seen.now.honest) c.requires.none c.requires.part c.requires.count c.reads.midst.count _ (g.R.Read.remaining c.read_some.new.input) refl c.reads.invariant.plain
+    c.args.longest (Refuses g.O.Objects.unmade g.O.Objects.unreached c.args.seen.now.honest) c.requires.none c.requires.part c.requires.count c.reads.midst.count _ (g.R.Read.remaining c.read_some.new.input) refl c.reads.invariant.plain
     c.in-Err.ensures.bytes (λ x. x))
     c.reads.invariant.went
 
@@ -53,12 +53,12 @@ returns-then-count-eq0 g c =
     let b = state c.reads.seen.lines c.reads.midst.part.items c.reads.midst.count in
     each (g.R.Read.remaining c.args.input.now) _ _ (λ text went.
     finishes c.args.seen.now.honest c.args.end c.reads.turn text a b (g.R.Read.remaining c.reads.input) (g.W.Write.contents c.args.output.now) (g.W.Write.contents c.reads.output) went
-    (refuses c.args.seen.now.honest) c.requires.none c.requires.part c.requires.count c.finish.result.lines c.finish.result.why (g.R.Read.remaining c.read_some.new.input) (g.W.Write.contents c.finish.new.output)
+    c.args.longest (refuses c.args.seen.now.honest) c.requires.none c.requires.part c.requires.count c.finish.result.lines c.finish.result.why (g.R.Read.remaining c.read_some.new.input) (g.W.Write.contents c.finish.new.output)
     (over (g.R.Read.remaining c.reads.input) (g.R.Read.remaining c.read_some.new.input) went.rest (take c.in-Ok.count c.read_some.new.out) went.is_left
     (ap (λ k. take k c.read_some.new.out) c.if-count-eq0.true) c.in-Ok.ensures.bytes.0
     (c.in-Ok.ensures.bytes.1 c.if-count-eq0.true (omega (arith, c.in-Ok.ensures.long, c.reads.invariant.room))))
     c.reads.invariant.plain
-    (subst (λ (t : Bool). Finished (refuses t) t c.args.end b c.finish.result.lines c.finish.result.why (g.W.Write.contents c.reads.output) (g.W.Write.contents c.finish.new.output)) c.reads.invariant.honest c.finish.ensures))
+    (subst (λ (t : Bool). Finished c.args.longest (refuses t) t c.args.end b c.finish.result.lines c.finish.result.why (g.W.Write.contents c.reads.output) (g.W.Write.contents c.finish.new.output)) c.reads.invariant.honest c.finish.ensures))
     c.reads.invariant.went
 
 pub returns-in-Err-work : goal.returns-in-Err-work
@@ -69,9 +69,9 @@ returns-in-Err-work g c =
     let chunk = take c.in-Ok.count c.read_some.new.out in
     each (g.R.Read.remaining c.args.input.now) _ _ (λ text went.
     halts c.args.seen.now.honest c.args.end c.reads.turn text a b (g.R.Read.remaining c.reads.input) (g.W.Write.contents c.args.output.now) (g.W.Write.contents c.reads.output) went
-    (refuses c.args.seen.now.honest) c.requires.none c.requires.part c.requires.count chunk c.work.new.midst.count c.in-Err-work.why (g.R.Read.remaining c.read_some.new.input) (g.W.Write.contents c.work.new.output)
+    c.args.longest (refuses c.args.seen.now.honest) c.requires.none c.requires.part c.requires.count chunk c.work.new.midst.count c.in-Err-work.why (g.R.Read.remaining c.read_some.new.input) (g.W.Write.contents c.work.new.output)
     c.in-Ok.ensures.bytes.0
-    (subst (λ (t : Bool). Halted (refuses t) t c.args.end chunk b c.work.new.midst.count c.in-Err-work.why (g.W.Write.contents c.reads.output) (g.W.Write.contents c.work.new.output)) c.reads.invariant.honest c.in-Err-work.ensures.halted))
+    (subst (λ (t : Bool). Halted c.args.longest (refuses t) t c.args.end chunk b c.work.new.midst.count c.in-Err-work.why (g.W.Write.contents c.reads.output) (g.W.Write.contents c.work.new.output)) c.reads.invariant.honest c.in-Err-work.ensures.halted))
     c.reads.invariant.went
 
 pub returns : goal.returns
@@ -80,5 +80,5 @@ returns g c =
     let b = state c.reads.seen.lines c.reads.midst.part.items c.reads.midst.count in
     each (g.R.Read.remaining c.args.input.now) _ _ (λ text went.
     ends_there c.args.seen.now.honest c.args.end c.reads.turn text a b (g.R.Read.remaining c.reads.input) (g.W.Write.contents c.args.output.now) (g.W.Write.contents c.reads.output) went
-    (Refuses g.O.Objects.unmade g.O.Objects.unreached c.args.seen.now.honest) c.requires.none c.requires.part c.requires.count c.reads.midst.count refl (omega arith))
+    c.args.longest (Refuses g.O.Objects.unmade g.O.Objects.unreached c.args.seen.now.honest) c.requires.none c.requires.part c.requires.count c.reads.midst.count refl (omega arith))
     c.reads.invariant.went

@@ -11,7 +11,7 @@ returns-in-Ok-clause-wrote g c =
 
 pub returns-in-Ok-clause-halted : goal.returns-in-Ok-clause-halted
 returns-in-Ok-clause-halted g c =
-    if_err c.take_bytes-taken.result _ _ (λ why s. halted _ c.args.seen.now.honest c.args.end c.args.bytes.now _ _ c.args.midst.now.out.items c.take_bytes-taken.new.midst.out.items why (g.W.Write.contents c.args.output.now) (g.W.Write.contents c.let_out.new.output) c.requires.empty s
+    if_err c.take_bytes-taken.result _ _ (λ why s. halted c.args.longest _ c.args.seen.now.honest c.args.end c.args.bytes.now _ _ c.args.midst.now.out.items c.take_bytes-taken.new.midst.out.items why (g.W.Write.contents c.args.output.now) (g.W.Write.contents c.let_out.new.output) c.requires.empty s
     (leaves_all why c.take_bytes-taken.new.midst.out.items (g.W.Write.contents c.args.output.now) (g.W.Write.contents c.let_out.new.output) c.in-Ok.ensures.all))
     c.take_bytes-taken.ensures.stopped
 
@@ -21,8 +21,8 @@ returns-in-Err-clause-halted g c =
     let refuses = Refuses g.O.Objects.unmade g.O.Objects.unreached honest in
     let a = state c.args.seen.now.lines c.args.midst.now.part.items c.args.midst.now.count in
     let b = state c.take_bytes-taken.new.seen.lines c.take_bytes-taken.new.midst.part.items c.take_bytes-taken.new.midst.count in
-    halted refuses honest c.args.end c.args.bytes.now a c.take_bytes-taken.new.midst.count c.args.midst.now.out.items c.take_bytes-taken.new.midst.out.items _ (g.W.Write.contents c.args.output.now) (g.W.Write.contents c.let_out.new.output) c.requires.empty
-    (either c.take_bytes-taken.result _ _ _ (λ d. did_stops refuses honest c.args.end c.args.bytes.now a b c.args.midst.now.out.items c.take_bytes-taken.new.midst.out.items _ tt d)
-    (λ why s. stops_so refuses honest c.args.end c.args.bytes.now a c.take_bytes-taken.new.midst.count c.args.midst.now.out.items c.take_bytes-taken.new.midst.out.items why _ (λ x. tt) s)
+    halted c.args.longest refuses honest c.args.end c.args.bytes.now a c.take_bytes-taken.new.midst.count c.args.midst.now.out.items c.take_bytes-taken.new.midst.out.items _ (g.W.Write.contents c.args.output.now) (g.W.Write.contents c.let_out.new.output) c.requires.empty
+    (either c.take_bytes-taken.result _ _ _ (λ d. did_stops c.args.longest refuses honest c.args.end c.args.bytes.now a b c.args.midst.now.out.items c.take_bytes-taken.new.midst.out.items _ tt d)
+    (λ why s. stops_so c.args.longest refuses honest c.args.end c.args.bytes.now a c.take_bytes-taken.new.midst.count c.args.midst.now.out.items c.take_bytes-taken.new.midst.out.items why _ (λ x. tt) s)
     c.take_bytes-taken.ensures.did c.take_bytes-taken.ensures.stopped)
     c.in-Err.ensures.part

@@ -1,6 +1,6 @@
 use Rattle.std.proofs.Common.{◌≡◌, ◌++◌, length, take, drop, sym, ◌∙◌}
 use Rattle.far_seen.proofs.Wholes.{whole}
-use Rattle.far_seen.proofs.steps.read_whole.Goals as goal
+use Rattle.far_seen.proofs.read.read_whole.Goals as goal
 
 pub returns-in-Ok-read-clause-read : goal.returns-in-Ok-read-clause-read
 returns-in-Ok-read-clause-read g c = λ o.
