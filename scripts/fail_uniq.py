@@ -24,7 +24,7 @@ USAGE = "usage: far_uniq [-m SIZE] [-d FOLDER] [-c] [-s] [-z] [FILE..]\n"
 TEXT = b"b\na\nb\n\nc\r\n\xff\na\n\nlast"
 BAD_WORDS = (["-x"], ["-m"], ["-m", ""], ["-m", "x"], ["-m", "K"], ["-m", "1K2"], ["-m", "-1"], ["-m", "99999999999999999999"], ["-d"], ["-z", "-q", "file"])
 # What a growth that was refused is told as.
-REFUSED = re.compile(r"far_uniq: (no memory; nothing was printed|standard input: line \d+: no memory; \d+ lines were printed|no far file: .*; nothing was printed)\n")
+REFUSED = re.compile(r"far_uniq: (no memory; nothing was printed|standard input: line \d+: no memory; -m has room for .*; \d+ lines were printed|no far file: .*; nothing was printed)\n")
 wrong = []
 
 
@@ -87,6 +87,13 @@ def options(program: str) -> None:
     text = b"".join(b"%d%s\n" % (draw.randrange(3000), b"x" * draw.randrange(300)) for _ in range(30_000))
     came = run(program, "-m", "8M", text=text)
     expect("lines by chance", came == (0, firsts(text), ""), came)
+    kinds = [bytes([97 + kind % 2]) * draw.randrange(30_000) + b"%d" % (kind % 9) for kind in range(100)]
+    text = b"\n".join(draw.choice(kinds) for _ in range(1_000))
+    came = run(program, "-m", "8M", text=text)
+    expect("long lines by chance", came == (0, firsts(text), ""), came)
+    came = run(program, "-s", text=TEXT)
+    told = re.fullmatch(r"far_uniq: 9 lines came, 6 were new\nfar_uniq: far side: heaps \d+ near 6 far 0 .*\n", came[2])
+    expect("what the far side did", came[:2] == (0, firsts(TEXT)) and told is not None, came)
 
 
 def be_interrupted() -> None:
@@ -130,8 +137,8 @@ def memory(program: str) -> None:
     least = int(told[1])
     came = run(program, "-m", str(least - 1), text=TEXT)
     expect("a byte less than the least memory", came == (1, b"", told[0]), came)
-    for size, lines in ((least, 2_000), (8 << 20, 60_000)):
-        text = b"".join(b"%06d a line that is one of many\n" % line for line in range(lines)) * 2
+    for size, lines, long in ((least, 2_000, 25), (8 << 20, 100_000, 25), (8 << 20, 200, 100_000), (8 << 20, 5_000, 4_100)):
+        text = b"".join(b"%06d a line that is one of many%s\n" % (line, b"." * (long - 25)) for line in range(lines)) * 2
         came, most = most_of(program, "-m", str(size), text=text, wanted=len(text) // 2)
         expect(f"{lines} lines in {size} bytes", came == (0, firsts(text), ""), came)
         if most > size * 1.15:
@@ -152,9 +159,12 @@ def faults(program: str, library: str) -> None:
     ):
         came = run(program, *words, text=TEXT)
         expect(f"words {words}", came[:2] == (1, printed) and re.fullmatch(told, came[2]) is not None, came)
-    long = b"a\nb\n" + b"x" * 4089 + b"\nc\n"
-    came = run(program, text=long)
-    expect("a long line", came == (1, b"a\nb\n", "far_uniq: standard input: line 3 has more than 4088 bytes; 2 lines were printed\n"), came)
+    long = b"a\nb\n" + b"x" * 131_072 + b"\nc\n"
+    came = run(program, "-m", "8M", text=long)
+    expect("a long line", came == (0, long, ""), came)
+    came = run(program, "-m", "8M", text=long.replace(b"x\n", b"xx\n"))
+    told = r"far_uniq: standard input: line 3 has more than 131072 bytes, a 64th of -m; 2 lines were printed\n"
+    expect("a longer line", came[:2] == (1, b"a\nb\n") and re.fullmatch(told, came[2]) is not None, came)
     with open("/dev/full", "wb") as full:
         came = run(program, text=TEXT, output=full)
     told = r"far_uniq: can't write at line \d+: No space left .*; what was written is how the right output begins\n"
@@ -167,6 +177,9 @@ def faults(program: str, library: str) -> None:
     came = run(program, "-m", "4M", text=text, LD_PRELOAD=library, FAIL_CALL="9000")
     told = re.fullmatch(r"far_uniq: standard input: line \d+: .*; \d+ lines were printed\n", came[2])
     expect("a far file that fails once", firsts(text).startswith(came[1]) and (came == (0, firsts(text), "") or (came[0] == 1 and told is not None)), came)
+    came = run(program, "-m", "4M", text=text, LD_PRELOAD=library, FAIL_FLIP="3")
+    told = re.fullmatch(r"far_uniq: standard input: line \d+: the far file gave other bytes than were put there; \d+ lines were printed\n", came[2])
+    expect("a far file that lies", came[0] == 1 and firsts(text).startswith(came[1]) and told is not None, came)
 
 
 def pipes(program: str) -> None:
@@ -190,7 +203,7 @@ def pipes(program: str) -> None:
     expect("a file while it runs", not [name for name in os.listdir(".") if name.startswith("far_uniq.")], (None, b"", ""))
     ran.send_signal(signal.SIGINT)
     said = ran.stderr.read().decode()
-    told = re.fullmatch(r"far_uniq: \d+ s, 8 bytes came\n", said)
+    told = re.fullmatch(r"far_uniq: \d+ s: 2 lines came, 1 were printed, 8 bytes\n", said)
     expect("a run that is interrupted", ran.wait(LONGEST) == -signal.SIGINT and told is not None, (ran.returncode, b"", said))
 
 

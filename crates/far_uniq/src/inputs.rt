@@ -3,6 +3,8 @@
 ghost use Rattle.std.specs.Prelude.{◌≡◌, ◌≤◌, IfOk, length};
 
 use crate::asked::Asked;
+use crate::output::ends_in;
+use std::cell::Cell;
 use std::fs::File;
 use std::io;
 use std::io::Read;
@@ -19,6 +21,8 @@ pub struct Inputs<'a> {
     last: u8,
     reads_standard: bool,
     came: Came,
+    /// How many lines were printed.
+    printed: &'a Cell<u64>,
 }
 
 /// How much came, and when that was told.
@@ -27,10 +31,11 @@ struct Came {
     since: Option<Instant>,
     seconds: u64,
     bytes: u64,
+    lines: u64,
 }
 
 impl<'a> Inputs<'a> {
-    pub fn new(rt: &'a HostRuntime, words: &'a Asked) -> Inputs<'a> {
+    pub fn new(rt: &'a HostRuntime, words: &'a Asked, printed: &'a Cell<u64>) -> Inputs<'a> {
         let since = if words.tells {
             Instant::now(rt).ok()
         } else {
@@ -48,7 +53,9 @@ impl<'a> Inputs<'a> {
                 since,
                 seconds: 0,
                 bytes: 0,
+                lines: 0,
             },
+            printed,
         }
     }
 
@@ -94,18 +101,24 @@ impl<'a> Inputs<'a> {
     }
 
     // Says once a second how much came.
-    fn tell(&mut self, count: usize) {
-        self.came.bytes = self.came.bytes.saturating_add(count as u64);
+    fn tell(&mut self, read: &[u8]) {
         let Some(since) = &self.came.since else {
             return;
         };
+        self.came.bytes = self.came.bytes.saturating_add(read.len() as u64);
+        let lines = self.came.lines.saturating_add(ends_in(read, self.end));
+        self.came.lines = lines;
         let Ok(elapsed) = since.elapsed(self.rt) else {
             return;
         };
         let seconds = elapsed.as_secs();
         if seconds > self.came.seconds {
             self.came.seconds = seconds;
-            let _ = eprintln!(self.rt; "far_uniq: {seconds} s, {} bytes came", self.came.bytes);
+            let _ = eprintln!(self.rt;
+                "far_uniq: {seconds} s: {lines} lines came, {} were printed, {} bytes",
+                self.printed.get(),
+                self.came.bytes
+            );
         }
     }
 }
@@ -121,7 +134,9 @@ impl Read for Inputs<'_> {
                 if let Some(last) = out.get(count - 1) {
                     self.last = *last;
                 }
-                self.tell(count);
+                if let Some(read) = out.get(..count) {
+                    self.tell(read);
+                }
                 return Ok(count);
             }
             if self.last != self.end {

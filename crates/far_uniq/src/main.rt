@@ -5,16 +5,19 @@
 
 mod asked;
 mod inputs;
+mod output;
 mod room;
 mod run;
 mod told;
 
 use crate::asked::{Asked, read_words};
 use crate::inputs::Inputs;
+use crate::output::Output;
 use crate::room::{open_far, room_in};
 use crate::run::print_firsts;
 use crate::told::{Fault, ended, tell};
 use far_pool::FileDevices;
+use std::cell::Cell;
 use std::process::ExitCode;
 use std::random::RandomSource;
 
@@ -23,21 +26,28 @@ fn main(rt: HostRuntime) -> ExitCode {
         Ok(words) => words,
         Err(fault) => return tell(&rt, &fault, None),
     };
-    let mut input = Inputs::new(&rt, &words);
-    match print(&rt, &words, &mut input) {
+    let printed = Cell::new(0);
+    let mut input = Inputs::new(&rt, &words, &printed);
+    let lines = if words.tells { Some(&printed) } else { None };
+    let mut output = Output::new(&rt, words.end, lines);
+    match print(&rt, &words, &mut input, &mut output) {
         Ok(()) => ExitCode::SUCCESS,
         Err(fault) => tell(&rt, &fault, input.name()),
     }
 }
 
-// Over a file. No contract can say what a file gives back, so its devices aren't called honest.
-fn print(rt: &HostRuntime, words: &Asked, input: &mut Inputs<'_>) -> Result<(), Fault> {
+// Over a file. No contract can say what a file gives back, so its devices aren't called honest; a line that was read is held against its tag.
+fn print(
+    rt: &HostRuntime,
+    words: &Asked,
+    input: &mut Inputs<'_>,
+    output: &mut Output<'_>,
+) -> Result<(), Fault> {
     let room = room_in(words.near)?;
     let mut seed = [0; 16];
     rt.fill_bytes(&mut seed).map_err(|_| Fault::Random)?;
     let file = open_far(rt, words, &seed)?;
     let devices = FileDevices::new(rt.alloc(), file).map_err(Fault::Start)?;
-    let mut output = rt.stdout();
     let printed = print_firsts(
         rt.alloc(),
         devices,
@@ -46,7 +56,7 @@ fn print(rt: &HostRuntime, words: &Asked, input: &mut Inputs<'_>) -> Result<(), 
         seed,
         words.end,
         input,
-        &mut output,
+        output,
     )
     .map_err(Fault::Start)?;
     if words.counts || words.tells {
@@ -55,5 +65,8 @@ fn print(rt: &HostRuntime, words: &Asked, input: &mut Inputs<'_>) -> Result<(), 
             printed.end.lines, printed.lines
         );
     }
-    ended(printed.end, printed.lines, room.lines)
+    if words.tells {
+        let _ = eprintln!(rt; "far_uniq: far side: {}", printed.far);
+    }
+    ended(printed.end, printed.lines, &room)
 }

@@ -13,28 +13,35 @@ const BESIDE: u64 = 3_145_728;
 /// Bytes near that a line takes, wherever it lies: 24 of its heap, 12 of the index.
 const LINE: u64 = 36;
 
+/// Bytes of logs for each line that there may be.
+const LOGS: u64 = 12;
+
 /// How many objects a heap has at most.
 const HEAP: u64 = 2_048;
 
-/// The least memory: for one heap.
-const LEAST: u64 = BESIDE + 2 * HEAP * LINE;
+/// The least memory: for one heap, and the line that is read.
+const LEAST: u64 = (BESIDE + HEAP * (LINE + LOGS)) * 32 / 31 + 1;
 
 #[derive(Drop)]
 pub struct Room {
     pub layout: Layout,
     /// How many different lines there may be.
     pub lines: usize,
+    /// How many bytes a line may have.
+    pub longest: usize,
 }
 
-/// Half of the memory is for lines that lie near, the other half for what each line takes.
+/// A 32nd of the memory is for the line that is read, and what is written of it. A quarter of the rest is for lines that lie near, the
+/// rest is for what each line takes.
 pub fn room_in(near: u64) -> Result<Room, Fault> {
     if near < LEAST {
         return Err(Fault::Small(LEAST));
     }
-    let shared = (near - BESIDE) / 2;
-    let lines = shared / LINE / HEAP * HEAP;
+    let longest = near / 64;
+    let shared = near - BESIDE - 2 * longest;
+    let lines = shared / (LINE + LOGS) / HEAP * HEAP;
     let plan = Plan {
-        near: shared,
+        near: shared - lines * LINE,
         objects: lines,
         typical: 64,
     };
@@ -42,6 +49,7 @@ pub fn room_in(near: u64) -> Result<Room, Fault> {
         Ok(layout) => Ok(Room {
             layout,
             lines: lines as usize,
+            longest: longest as usize,
         }),
         Err(_) => Err(Fault::Large),
     }

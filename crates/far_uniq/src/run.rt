@@ -9,17 +9,18 @@ ghost use Rattle.far_firsts.specs.Telling.{Tells};
 use crate::room::Room;
 use far_device::Device;
 use far_firsts::{End, uniq};
-use far_pool::{MakeDevice, Worker};
+use far_pool::{MakeDevice, Worker, WorkerStatistics};
 use far_seen::Seen;
 use far_word::Refused;
 use std::alloc::Global;
 use std::io::{Read, Write};
 
-/// How a run ended, and how many lines are in its set.
+/// How a run ended, how many lines are in its set, and what the far side has done.
 #[derive(Drop)]
 pub struct Printed {
     pub end: End,
     pub lines: usize,
+    pub far: WorkerStatistics,
 }
 
 /// Prints each line of the input the first time it comes. Far objects are kept by the devices that `devices` makes; `honest` may be true only
@@ -37,7 +38,7 @@ pub fn print_firsts<D: Device + Drop, M: MakeDevice<D> + Drop, R: Read, W: Write
     output: &mut W,
 ) -> Result<Printed, Refused>
     requires { honest ≡ true → M.honest ≡ true }
-    ensures printed { IfOk result (λ p. IfSome (R.remaining input.old) (λ text. Tells (Refuses IsNoPlace IsOutside honest) honest end p.end.lines p.end.why text (R.remaining input.new) (W.contents output.old) (W.contents output.new))) }
+    ensures printed { IfOk result (λ p. IfSome (R.remaining input.old) (λ text. Tells room.now.longest (Refuses IsNoPlace IsOutside honest) honest end p.end.lines p.end.why text (R.remaining input.new) (W.contents output.old) (W.contents output.new))) }
     ensures input { OnErr result (R.remaining input.new ≡ R.remaining input.old) }
     ensures output { OnErr result (W.contents output.new ≡ W.contents output.old) }
 {
@@ -49,7 +50,8 @@ pub fn print_firsts<D: Device + Drop, M: MakeDevice<D> + Drop, R: Read, W: Write
         Ok(seen) => seen,
         Err(why) => return Err(why),
     };
-    let end = uniq(alloc, &mut seen, end, input, output);
+    let end = uniq(alloc, &mut seen, end, room.longest, input, output);
     let lines = seen.len();
-    Ok(Printed { end, lines })
+    let far = seen.worker().statistics();
+    Ok(Printed { end, lines, far })
 }

@@ -1,5 +1,6 @@
 //! What is said at an end that isn't the right one.
 
+use crate::room::Room;
 use far_firsts::{End, Why};
 use far_word::Refused;
 use std::io;
@@ -18,11 +19,13 @@ pub enum Fault {
     File(io::Error),
     /// Before the first line.
     Start(Refused),
-    /// The line of this number, counted from 1, has more than 4,088 bytes; so many were printed.
-    Long(u64, usize),
-    /// There are no more than so many lines that may be printed.
+    /// At the line of this number, counted from 1: there are no more than so many lines that may be printed.
     Full(u64, usize),
-    /// The far side, or memory, at this line; so many were printed.
+    /// There is no memory for this line: there would be for so many short ones; so many were printed.
+    NoMemory(u64, usize, usize),
+    /// This line is longer than so many bytes; so many were printed.
+    Long(u64, usize, usize),
+    /// The far side, at this line; so many were printed.
     Line(u64, Refused, usize),
     Input(u64, io::Error, usize),
     Output(u64, io::Error),
@@ -31,12 +34,17 @@ pub enum Fault {
 }
 
 /// What an end comes to.
-pub fn ended(end: End, printed: usize, lines: usize) -> Result<(), Fault> {
+pub fn ended(end: End, printed: usize, room: &Room) -> Result<(), Fault> {
     let at = end.lines.saturating_add(1);
     match end.why {
         Why::Done => Ok(()),
-        Why::Refused(Refused::Length) => Err(Fault::Long(at, printed)),
-        Why::Refused(Refused::NoPointer) => Err(Fault::Full(at, lines)),
+        Why::Refused(Refused::Memory | Refused::NoPointer) => {
+            if printed == room.lines {
+                return Err(Fault::Full(at, printed));
+            }
+            Err(Fault::NoMemory(at, room.lines, printed))
+        }
+        Why::Refused(Refused::Length) => Err(Fault::Long(at, room.longest, printed)),
         Why::Refused(why) => Err(Fault::Line(at, why, printed)),
         Why::Input(e) => Err(Fault::Input(at, e, printed)),
         Why::Output(e) => {
@@ -77,8 +85,11 @@ pub fn tell(rt: &HostRuntime, fault: &Fault, input: Option<&str>) -> ExitCode {
         Fault::Large => eprintln!(rt; "far_uniq: too much for this program"),
         Fault::File(e) => eprintln!(rt; "far_uniq: no far file: {e}; nothing was printed"),
         Fault::Start(why) => eprintln!(rt; "far_uniq: {}; nothing was printed", cause(why)),
-        Fault::Long(at, printed) => eprintln!(rt;
-            "far_uniq: {file}: line {at} has more than 4088 bytes; {printed} lines were printed"
+        Fault::NoMemory(at, lines, printed) => eprintln!(rt;
+            "far_uniq: {file}: line {at}: no memory; -m has room for {lines} lines of up to 4088 bytes, and for fewer longer ones; {printed} lines were printed"
+        ),
+        Fault::Long(at, longest, printed) => eprintln!(rt;
+            "far_uniq: {file}: line {at} has more than {longest} bytes, a 64th of -m; {printed} lines were printed"
         ),
         Fault::Full(at, lines) => eprintln!(rt;
             "far_uniq: {file}: line {at} would be new beyond {lines}, all that -m has room for; they were printed"
