@@ -7,7 +7,7 @@ import pathlib
 import re
 
 TOP = pathlib.Path(__file__).resolve().parent.parent
-CRATES = ("far_pool", "far_map", "far_array", "far_large", "far_private", "far_heap", "far_file", "far_objects")
+CRATES = ("far_pool", "far_map", "far_dict", "far_array", "far_large", "far_private", "far_heap", "far_file", "far_objects")
 HEAD = """# What a program may call
 
 Of each crate the types, calls and clauses that another crate sees, made from the sources by scripts/api.py. `ensures` says what holds after

@@ -16,7 +16,7 @@ KIT = pathlib.Path("/opt/rattle")
 def uses_of(root: pathlib.Path) -> dict:
     """The libraries that each crate uses, by crates.txt."""
     rows = (line.split(":", 1) for line in (root / "crates.txt").read_text().splitlines() if ":" in line)
-    return {name.strip(): rest.split() for name, rest in rows}
+    return {name.split()[0]: rest.split() for name, rest in rows}
 
 
 def below(crate: str, uses: dict) -> list:
@@ -43,6 +43,8 @@ def main() -> None:
         words += ["--extern", f"{it}={KIT}/rlibs/{it}.rlib"]
     for it in own:
         words += ["--lib", f"{it}:{','.join(['std', *uses[it]])}={root_file(root, it)}"]
+    if f"\n{crate} staticlib:" in (root / "crates.txt").read_text():
+        words += ["--crate-type", "staticlib"]
     words += ["--antt-project", f"{KIT}/rattle/logic/antt-project.json", "--logic-built", f"{KIT}/logic_built", "--incremental", str(kept)]
     kept.mkdir(parents=True, exist_ok=True)
     os.chdir(root / "crates" / crate)

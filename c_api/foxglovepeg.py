@@ -1,0 +1,167 @@
+"""Foxglovepeg for Python: objects of 1 to 4,088 bytes behind handles that no stale copy can misuse, some near, the others packed in memory.
+
+    with Worker(near=1 << 26, objects=1_000_000, typical=64) as worker:
+        handle = worker.alloc(b"hello")
+        worker.write(handle, 0, b"J")
+        assert worker.read(handle) == b"Jello"
+        worker.drop(handle)
+
+A worker is one thread's. libfoxglovepeg.so lies beside this file, or where FOXGLOVEPEG says. PyDLL, not CDLL: no other thread runs during a call.
+"""
+import ctypes as c
+import os
+import pathlib
+
+
+class Refused(Exception):
+    """A call was refused, and changed nothing. Each status has a class of its own; `status` is its number."""
+
+    status = 0
+
+
+STATUSES = {
+    1: ("OutOfMemory", "out of memory"),
+    2: ("NoRoom", "nothing near can leave: memory is refused"),
+    3: ("NoPointer", "each heap has its 2,048 objects"),
+    4: ("Length", "an object has 1 to 4,088 bytes"),
+    7: ("NotHeld", "there is no such object"),
+    8: ("Range", "no byte was asked for, or they pass the object's end"),
+    10: ("Device", "a far object is lost"),
+    11: ("Damaged", "a far object has another length"),
+    13: ("EpochsSpent", "2^62 rounds were made"),
+    20: ("Closed", "the worker is not open"),
+    21: ("Open", "the worker is open"),
+    22: ("Objects", "a worker has at most 2^32 objects"),
+    23: ("Near", "too few bytes near for so many objects"),
+}
+BY_STATUS = {status: type(name, (Refused,), {"status": status, "__doc__": words}) for status, (name, words) in STATUSES.items()}
+globals().update({kind.__name__: kind for kind in BY_STATUS.values()})
+
+
+class _Worker(c.Structure):
+    _fields_ = [("live", c.c_bool), ("at", c.c_void_p)]
+
+
+class Statistics(c.Structure):
+    """What a worker has, and what it has done since it was opened."""
+
+    WORDS = "near_objects far_objects live dead unused far_bytes accesses fetches evictions writes_spared moves rounds device_faults".split()
+    _fields_ = [(word, c.c_uint64) for word in WORDS] + [("heaps", c.c_uint32)]
+
+    def __repr__(self) -> str:
+        return "Statistics(" + ", ".join(f"{word}={getattr(self, word)}" for word, _ in self._fields_) + ")"
+
+
+_lib = c.PyDLL(os.environ.get("FOXGLOVEPEG") or str(pathlib.Path(__file__).resolve().parent / "libfoxglovepeg.so"))
+_WORKER, _U64 = c.POINTER(_Worker), c.POINTER(c.c_uint64)
+_ARGUMENTS = {
+    "far_open_memory": [_WORKER, c.c_uint64, c.c_uint64, c.c_uint16],
+    "far_close": [_WORKER],
+    "far_least_near": [c.c_uint64, c.c_uint16, _U64],
+    "far_alloc": [_WORKER, c.c_char_p, c.c_size_t, c.c_uint8, _U64],
+    "far_read": [_WORKER, c.c_uint64, c.c_size_t, c.c_char_p, c.c_size_t],
+    "far_write": [_WORKER, c.c_uint64, c.c_size_t, c.c_char_p, c.c_size_t],
+    "far_drop": [_WORKER, c.c_uint64],
+    "far_length": [_WORKER, c.c_uint64, c.POINTER(c.c_uint16)],
+    "far_holds": [_WORKER, c.c_uint64],
+    "far_add_heap": [_WORKER],
+    "far_statistics": [_WORKER, c.POINTER(Statistics)],
+}
+for _name, _arguments in _ARGUMENTS.items():
+    getattr(_lib, _name).argtypes = _arguments
+    getattr(_lib, _name).restype = c.c_int32
+_lib.far_worker_size.restype = c.c_size_t
+if _lib.far_worker_size() != c.sizeof(_Worker):
+    raise ImportError("libfoxglovepeg.so has another struct far_worker")
+
+_alloc, _read, _write, _drop, _length = _lib.far_alloc, _lib.far_read, _lib.far_write, _lib.far_drop, _lib.far_length
+
+
+def _done(status: int) -> None:
+    if status:
+        raise BY_STATUS[status](BY_STATUS[status].__doc__)
+
+
+def least_near(objects: int, typical: int) -> int:
+    """The fewest bytes near with which a worker can be opened."""
+    told = c.c_uint64()
+    _done(_lib.far_least_near(objects, typical, c.byref(told)))
+    return told.value
+
+
+class Worker:
+    """Objects of 1 to 4,088 bytes by handle: `near` bytes of them as they are, the others packed.
+
+    `objects` is how many there will be, up to 2**32; `typical`, how many bytes most of them have."""
+
+    def __init__(self, near: int, objects: int, typical: int):
+        self._held = _Worker()
+        self._at = c.byref(self._held)
+        self._buffer = c.create_string_buffer(4088)
+        self._number, self._short = c.c_uint64(), c.c_uint16()
+        self._number_at, self._short_at = c.byref(self._number), c.byref(self._short)
+        _done(_lib.far_open_memory(self._at, near, objects, typical))
+
+    def __enter__(self) -> "Worker":
+        return self
+
+    def __exit__(self, *_) -> None:
+        if self._held.live:
+            self.close()
+
+    def __del__(self) -> None:
+        if getattr(self, "_held", None) is not None and self._held.live:
+            self.close()
+
+    def close(self) -> None:
+        """The objects are gone, and the memory is given back."""
+        _done(_lib.far_close(self._at))
+
+    def alloc(self, data: bytes, structure: int = 0) -> int:
+        """A new object of these bytes: its handle. `structure` is a number of the program's own choice, 0 to 255."""
+        status = _alloc(self._at, data, len(data), structure, self._number_at)
+        if status:
+            _done(status)
+        return self._number.value
+
+    def read(self, handle: int, start: int = 0, size: "int | None" = None) -> bytes:
+        """Bytes of an object from `start` on: `size` of them, or all that there are."""
+        if size is None:
+            size = self.length(handle) - start
+        if size < 0 or size > 4088:
+            raise BY_STATUS[8](BY_STATUS[8].__doc__)
+        status = _read(self._at, handle, start, self._buffer, size)
+        if status:
+            _done(status)
+        return self._buffer[:size]
+
+    def write(self, handle: int, start: int, data: bytes) -> None:
+        """Writes bytes over those of an object, from `start` on."""
+        status = _write(self._at, handle, start, data, len(data))
+        if status:
+            _done(status)
+
+    def drop(self, handle: int) -> None:
+        """The object is gone, and its handle is refused from then on."""
+        status = _drop(self._at, handle)
+        if status:
+            _done(status)
+
+    def length(self, handle: int) -> int:
+        """How many bytes an object has."""
+        status = _length(self._at, handle, self._short_at)
+        if status:
+            _done(status)
+        return self._short.value
+
+    def __contains__(self, handle: int) -> bool:
+        return _lib.far_holds(self._at, handle) == 0
+
+    def add_heap(self) -> None:
+        """Room for 2,048 objects more."""
+        _done(_lib.far_add_heap(self._at))
+
+    def statistics(self) -> Statistics:
+        all_ = Statistics()
+        _done(_lib.far_statistics(self._at, c.byref(all_)))
+        return all_

@@ -1,0 +1,127 @@
+/* Foxglovepeg 2.0 for C and C++: objects of 1 to 4,088 bytes behind handles that no stale copy can misuse, in as many bytes near as you say, the others packed
+ * in memory. There is no file yet.
+ *
+ * Each function but what c_api/support.c has is proved. What C owes: a `struct far_worker` is all zero, or as the last call left it; none that is open is
+ * copied; one call at a time has it; no two arguments of a call overlap; no pointer is NULL, also where its length is 0. Then no call aborts, whatever the
+ * numbers are: a handle that is stale, made up, or another worker's, a length that doesn't fit, a second close, a call of a worker that isn't open are
+ * answered by a status.
+ *
+ * Threads: a worker stays on the thread that opened it. Several threads have a worker each. No call waits, takes a lock, or starts a thread. No
+ * call may come from a signal handler.
+ *
+ * Memory: all of it is malloc's, and far_close gives it back. No call keeps a pointer that it was given. */
+#ifndef FOXGLOVEPEG_H
+#define FOXGLOVEPEG_H
+
+#include <stdbool.h>
+#include <stddef.h>
+#include <stdint.h>
+
+#define FOXGLOVEPEG_VERSION_MAJOR 2
+#define FOXGLOVEPEG_VERSION_MINOR 0
+
+#ifdef __cplusplus
+extern "C" {
+#endif
+
+/* A worker: begin with FAR_WORKER_NONE, and look at no field. */
+struct far_worker {
+    bool live;
+    void *at;
+};
+#define FAR_WORKER_NONE {false, NULL}
+
+/* What a call answers. After any but FAR_OK the worker's objects are as they were, and what the call gives out isn't set. */
+enum far_status {
+    FAR_OK = 0,
+    FAR_MEMORY = 1,        /* malloc refused memory */
+    FAR_NO_ROOM = 2,       /* nothing near can leave: malloc refused memory for it */
+    FAR_NO_POINTER = 3,    /* each heap has its 2,048 objects: far_add_heap makes room for more; or there are 2,097,152 heaps */
+    FAR_LENGTH = 4,        /* an object has 1 to 4,088 bytes */
+    FAR_NOT_HELD = 7,      /* the worker has no such object: it was dropped, or never was */
+    FAR_RANGE = 8,         /* no byte was asked for, or they pass the object's end */
+    FAR_DEVICE = 10,       /* a far object is lost: memory loses none */
+    FAR_DAMAGED = 11,      /* a far object has another length: in memory none has */
+    FAR_EPOCHS_SPENT = 13, /* 2^62 rounds were made */
+    FAR_CLOSED = 20,       /* the worker isn't open */
+    FAR_OPEN = 21,         /* it is open already */
+    FAR_OBJECTS = 22,      /* a worker has at most 2^32 objects */
+    FAR_NEAR = 23          /* too few bytes near for so many objects: far_least_near tells how many would do */
+};
+
+/* A status in words, which are there as long as the program; for no status "no status". */
+const char *far_status_text(int32_t status);
+
+/* What a worker has, and what it has done since it was opened. */
+struct far_statistics {
+    uint64_t near_objects;  /* objects in memory */
+    uint64_t far_objects;   /* objects packed in memory */
+    uint64_t live;          /* bytes near that objects take, each with a header of 8, in whole words */
+    uint64_t dead;          /* bytes near that nothing needs, until a round gives them back */
+    uint64_t unused;        /* bytes near that were not taken yet */
+    uint64_t far_bytes;     /* bytes of the objects packed in memory */
+    uint64_t accesses;      /* reads and writes, refused ones too */
+    uint64_t fetches;       /* objects that were brought near */
+    uint64_t evictions;     /* objects that went far */
+    uint64_t writes_spared; /* those of them that were packed with these bytes already */
+    uint64_t moves;         /* objects that went to another place near */
+    uint64_t rounds;        /* rounds that were made */
+    uint64_t device_faults; /* packings that failed */
+    uint32_t heaps;         /* heaps of 2,048 objects at most */
+};
+
+/* Opens a worker without objects.
+ *
+ * near: bytes for objects that lie near; far_least_near tells the fewest. Some 23 bytes an object come on top.
+ * objects: how many objects there will be, near and far, up to 2^32. typical: how many bytes most of them have, 1 to 4,088.
+ *
+ * FAR_OPEN: it is open already. Then, in this order, FAR_LENGTH, FAR_OBJECTS, FAR_NEAR, exactly as the numbers are; FAR_MEMORY. No other. */
+int32_t far_open_memory(struct far_worker *worker, uint64_t near_bytes, uint64_t objects, uint16_t typical);
+
+/* Closes a worker: its objects are gone, and all memory is given back. FAR_CLOSED: it wasn't open. */
+int32_t far_close(struct far_worker *worker);
+
+/* The fewest bytes near with which far_open_memory opens a worker. FAR_LENGTH, FAR_OBJECTS, as there; no other. */
+int32_t far_least_near(uint64_t objects, uint16_t typical, uint64_t *bytes);
+
+/* Makes an object of len bytes, 1 to 4,088; structure is a number of the program's own choice. The handle had no object. A call may make a round, which
+ * sends others far.
+ *
+ * FAR_CLOSED; FAR_LENGTH; FAR_NO_POINTER; FAR_NO_ROOM, FAR_EPOCHS_SPENT: as the heap whose turn it is. The next call is another heap's. */
+int32_t far_alloc(struct far_worker *worker, const uint8_t *bytes, size_t len, uint8_t structure, uint64_t *handle);
+
+/* The same of len zeros. */
+int32_t far_alloc_zeros(struct far_worker *worker, uint16_t len, uint8_t structure, uint64_t *handle);
+
+/* Reads len bytes of an object, from byte `from` on, as they were written last. A far object comes near.
+ *
+ * FAR_CLOSED; FAR_NOT_HELD, exactly where there is no such object; FAR_RANGE, exactly where len is 0 or from + len is more than its length; FAR_NO_ROOM,
+ * FAR_EPOCHS_SPENT, FAR_MEMORY, FAR_DEVICE, FAR_DAMAGED: the object is far and doesn't come. Then `out` may have other bytes. */
+int32_t far_read(struct far_worker *worker, uint64_t handle, size_t from, uint8_t *out, size_t len);
+
+/* Writes len bytes over those of an object, from byte `from` on. Refused as far_read is. */
+int32_t far_write(struct far_worker *worker, uint64_t handle, size_t from, const uint8_t *bytes, size_t len);
+
+/* Drops an object: its handle is refused from then on, until its pointer was given 65,536 times more. FAR_CLOSED; FAR_NOT_HELD. */
+int32_t far_drop(struct far_worker *worker, uint64_t handle);
+
+/* How many bytes an object has, 1 to 4,088. Nothing is fetched. FAR_CLOSED; FAR_NOT_HELD, exactly where there is no such object. */
+int32_t far_length(struct far_worker *worker, uint64_t handle, uint16_t *len);
+
+/* FAR_OK where there is such an object, FAR_NOT_HELD where there is none. Nothing is fetched. FAR_CLOSED. */
+int32_t far_holds(struct far_worker *worker, uint64_t handle);
+
+/* Adds a heap, for 2,048 objects more. FAR_CLOSED; FAR_NO_POINTER: there are 2,097,152; FAR_MEMORY. */
+int32_t far_add_heap(struct far_worker *worker);
+
+/* What the worker has. It looks at each heap. FAR_CLOSED. */
+int32_t far_statistics(struct far_worker *worker, struct far_statistics *statistics);
+
+/* sizeof(struct far_worker) of the library, for other languages to compare. */
+size_t far_worker_size(void);
+
+#ifdef __cplusplus
+}
+#endif
+
+#endif

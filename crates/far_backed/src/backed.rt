@@ -1,0 +1,174 @@
+//! The worker.
+
+ghost use Rattle.std.specs.Prelude.{◌≡◌, ◌<◌, ◌+◌, ℕ, true, false, None, Some, Err, length, slice_range, IfOk, IfErr, IfSome, OnErr, OnOk, is_some, ◌≤◌};
+ghost use Rattle.far_word.specs.declared.refused.Refused.{Refused as Refusal};
+ghost use Rattle.far_word.specs.declared.refused.Refused.TheVariants.{Length, NoRoom, NotHeld};
+ghost use Rattle.far_private.specs.Heap.{IsWhyNoAccess, is_length, new_object, object_with, size_of};
+ghost use Rattle.far_pool.specs.Pool.{Changes, IsWhyNone, Makes, NextGeneration, Same, Writes, count_in, len_at, refusal_of};
+ghost use Rattle.far_private.specs.Causes.{IsNotGiven};
+ghost use Rattle.far_pool.specs.Rooms.{IsNotTaken, IsStuck};
+ghost use Rattle.far_backed.specs.Named.{bytes_of, handle_of, object_of};
+
+use crate::named::{named, number_of};
+use far_device::{Device, MemDevice};
+use far_pool::{Handle, Layout, MemDevices, Worker, WorkerStatistics};
+use far_word::Refused;
+use std::alloc::Global;
+use std::marker::Model;
+
+/// A worker over memory. To a contract it is its objects, by number.
+#[derive(Drop)]
+pub struct Backed {
+    worker: Worker<MemDevice, MemDevices>,
+}
+
+impl Model for Backed {
+    ghost use Rattle.std.specs.Prelude.{◌≡◌, true};
+    ghost use Rattle.far_pool.specs.Pool.{Pool};
+
+    ghost Value = { Pool };
+
+    ghost view = { λ b. b.worker };
+
+    ghost invariant = { λ b. b.worker.honest ≡ true };
+}
+
+impl Backed {
+    /// A worker of the heaps of a layout, whose far objects lie in memory. Refused as [`Worker::new`] is.
+    pub fn in_memory(alloc: Global, layout: Layout) -> Result<Backed, Refused>
+        ensures empty { IfOk result (λ worker. (n : ℕ) → object_of worker n ≡ None) }
+        ensures honest { IfOk result (λ worker. worker.honest ≡ true) }
+        ensures logs { IfOk result (λ worker. worker.logs ≡ layout.logs) }
+        ensures heaps { IfOk result (λ worker. length worker.shelves ≡ layout.heaps) }
+    {
+        match Worker::new(alloc, MemDevices::new(alloc), layout, true) {
+            Ok(worker) => Ok(Backed { worker }),
+            Err(why) => Err(why),
+        }
+    }
+
+    /// Adds a heap, and answers its number: how many there were. As [`Worker::add_heap`].
+    pub fn add_heap(&mut self) -> Result<u32, Refused>
+        ensures same { Same self.old self.new }
+        ensures more { IfOk result (λ heap. (heap ≡ length self.old.shelves) × (length self.new.shelves ≡ length self.old.shelves + 1)) }
+        ensures refused { OnErr result (self.new ≡ self.old) }
+    {
+        self.worker.add_heap()
+    }
+
+    // Makes an object of these bytes.
+    fn make(&mut self, bytes: &[u8], structure: u8) -> Result<Handle, Refused>
+        ensures made { IfOk result (λ handle. Makes handle (object_with self.old.honest structure bytes.now) self.old self.new) }
+        ensures done { OnOk result (is_length (length bytes.now) ≡ true) }
+        ensures refused { OnErr result (self.new ≡ self.old) }
+        ensures long { is_length (length bytes.now) ≡ false → result ≡ Err Length }
+        ensures why { IfErr result (λ why. IsWhyNone (length bytes.now) why) }
+        ensures room { result ≡ Err NoRoom → 3 ≤ self.old.logs → IsStuck MemDevice ⟦<MemDevice as Device>⟧.writes self.old }
+    {
+        self.worker.alloc(bytes, structure)
+    }
+
+    // The same of so many zeros.
+    fn make_zeros(&mut self, len: u16, structure: u8) -> Result<Handle, Refused>
+        ensures made { IfOk result (λ handle. Makes handle (new_object self.old.honest len structure) self.old self.new) }
+        ensures done { OnOk result (is_length len ≡ true) }
+        ensures refused { OnErr result (self.new ≡ self.old) }
+        ensures long { is_length len ≡ false → result ≡ Err Length }
+        ensures why { IfErr result (λ why. IsWhyNone len why) }
+        ensures room { result ≡ Err NoRoom → 3 ≤ self.old.logs → IsStuck MemDevice ⟦<MemDevice as Device>⟧.writes self.old }
+    {
+        self.worker.alloc_zeros(len, structure)
+    }
+
+    /// Makes an object of these bytes, and answers its number, which named none. As [`Worker::alloc`].
+    pub fn alloc(&mut self, bytes: &[u8], structure: u8) -> Result<u64, Refused>
+        ensures made { IfOk result (λ n. Makes (handle_of n) (object_with self.old.honest structure bytes.now) self.old self.new) }
+        ensures done { OnOk result (is_length (length bytes.now) ≡ true) }
+        ensures refused { OnErr result (self.new ≡ self.old) }
+        ensures long { is_length (length bytes.now) ≡ false → result ≡ Err Length }
+        ensures why { IfErr result (λ why. IsWhyNone (length bytes.now) why) }
+        ensures room { result ≡ Err NoRoom → 3 ≤ self.old.logs → IsStuck MemDevice ⟦<MemDevice as Device>⟧.writes self.old }
+    {
+        match self.make(bytes, structure) {
+            Ok(handle) => Ok(number_of(handle)),
+            Err(why) => Err(why),
+        }
+    }
+
+    /// The same of so many zeros. As [`Worker::alloc_zeros`].
+    pub fn alloc_zeros(&mut self, len: u16, structure: u8) -> Result<u64, Refused>
+        ensures made { IfOk result (λ n. Makes (handle_of n) (new_object self.old.honest len structure) self.old self.new) }
+        ensures done { OnOk result (is_length len ≡ true) }
+        ensures refused { OnErr result (self.new ≡ self.old) }
+        ensures long { is_length len ≡ false → result ≡ Err Length }
+        ensures why { IfErr result (λ why. IsWhyNone len why) }
+        ensures room { result ≡ Err NoRoom → 3 ≤ self.old.logs → IsStuck MemDevice ⟦<MemDevice as Device>⟧.writes self.old }
+    {
+        match self.make_zeros(len, structure) {
+            Ok(handle) => Ok(number_of(handle)),
+            Err(why) => Err(why),
+        }
+    }
+
+    /// Reads bytes of an object, from one on, as many as `out` has. As [`Worker::read`].
+    pub fn read(&mut self, number: u64, from: usize, out: &mut [u8]) -> Result<(), Refused>
+        ensures same { self.new ≡ self.old }
+        ensures long { length out.new ≡ length out.old }
+        ensures read { OnOk result (IfSome (bytes_of self.old number) (λ bytes. out.new ≡ slice_range bytes from (from + length out.old))) }
+        ensures done { OnOk result (refusal_of (object_of self.old number) from (length out.old) ≡ None) }
+        ensures barred { (why : Refusal) → refusal_of (object_of self.old number) from (length out.old) ≡ Some why → result ≡ Err why }
+        ensures why { IfErr result (λ why. IsWhyNoAccess self.old.honest (refusal_of (object_of self.old number) from (length out.old)) why) }
+        ensures room { result ≡ Err NoRoom → 3 ≤ self.old.logs → IsNotTaken MemDevice ⟦<MemDevice as Device>⟧.writes self.old (handle_of number).heap }
+        ensures given { IfErr result (IsNotGiven MemDevice ⟦<MemDevice as Device>⟧.reads (handle_of number).pointer (len_at self.old (handle_of number))) }
+    {
+        let handle = named(number);
+        self.worker.read(handle, from, out)
+    }
+
+    /// Writes bytes over those of an object, from one on. Refused as [`Backed::read`] is.
+    pub fn write(&mut self, number: u64, from: usize, bytes: &[u8]) -> Result<(), Refused>
+        ensures written { OnOk result (Writes (handle_of number) from bytes.now self.old self.new) }
+        ensures done { OnOk result (refusal_of (object_of self.old number) from (length bytes.now) ≡ None) }
+        ensures refused { OnErr result (self.new ≡ self.old) }
+        ensures barred { (why : Refusal) → refusal_of (object_of self.old number) from (length bytes.now) ≡ Some why → result ≡ Err why }
+        ensures why { IfErr result (λ why. IsWhyNoAccess self.old.honest (refusal_of (object_of self.old number) from (length bytes.now)) why) }
+        ensures room { result ≡ Err NoRoom → 3 ≤ self.old.logs → IsNotTaken MemDevice ⟦<MemDevice as Device>⟧.writes self.old (handle_of number).heap }
+        ensures given { IfErr result (IsNotGiven MemDevice ⟦<MemDevice as Device>⟧.reads (handle_of number).pointer (len_at self.old (handle_of number))) }
+    {
+        let handle = named(number);
+        self.worker.write(handle, from, bytes)
+    }
+
+    /// Drops an object. Refused [`Refused::NotHeld`] alone, exactly where there is none.
+    pub fn drop_object(&mut self, number: u64) -> Result<(), Refused>
+        ensures dropped { OnOk result ((is_some (object_of self.old number) ≡ true) × Changes (handle_of number) None self.old self.new × NextGeneration (handle_of number) self.old self.new) }
+        ensures refused { IfErr result (λ why. (why ≡ NotHeld) × (object_of self.old number ≡ None) × (self.new ≡ self.old)) }
+    {
+        let handle = named(number);
+        self.worker.drop_object(handle)
+    }
+
+    /// How many bytes an object has, 1 to 4,088; `None` exactly where there is none. Nothing is fetched.
+    pub fn len_of(&self, number: u64) -> Option<u16>
+        ensures { result ≡ size_of (object_of self.now number) }
+    {
+        let handle = named(number);
+        self.worker.len_of(handle)
+    }
+
+    /// Whether there is an object. Nothing is fetched.
+    pub fn holds(&self, number: u64) -> bool
+        ensures { result ≡ is_some (object_of self.now number) }
+    {
+        let handle = named(number);
+        self.worker.holds(handle)
+    }
+
+    /// What the worker has, and what it has done. It looks at each heap.
+    pub fn statistics(&self) -> WorkerStatistics
+        ensures objects { result.near + result.far ≡ count_in self.now }
+        ensures heaps { result.heaps ≡ length self.now.shelves }
+    {
+        self.worker.statistics()
+    }
+}

@@ -1,0 +1,2 @@
+mod AsBox
+mod Statuses

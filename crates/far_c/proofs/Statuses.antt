@@ -1,0 +1,32 @@
+-- No refusal has the number of what was done.
+use Rattle.std.proofs.Common.{◌≡◌, ◌≢◌, ◌<◌, ℕ, ℤ, pos, negsuc, sym, ap, ◌∙◌, arith}
+use Rattle.far_word.specs.declared.refused.Refused.{Refused}
+use Rattle.far_word.specs.declared.refused.Refused.TheVariants.{Memory, NoRoom, NoPointer, Length, Closed, AlreadyOpen, NotHeld, Range, Held, Device, Damaged, Phase, EpochsSpent, Marked, Shape, Syntax, BadChoice, StillOpen}
+use Rattle.far_word.specs.Refused.{refusal_number}
+
+positive : (why : Refused) → 0 < refusal_number why
+positive Memory = omega arith
+positive NoRoom = omega arith
+positive NoPointer = omega arith
+positive Length = omega arith
+positive Closed = omega arith
+positive AlreadyOpen = omega arith
+positive NotHeld = omega arith
+positive Range = omega arith
+positive Held = omega arith
+positive Device = omega arith
+positive Damaged = omega arith
+positive Phase = omega arith
+positive EpochsSpent = omega arith
+positive (Marked word) = omega arith
+positive Shape = omega arith
+positive (Syntax line) = omega arith
+positive (BadChoice log) = omega arith
+positive (StillOpen mutator epoch) = omega arith
+
+abbrev nat_of : ℤ → ℕ
+nat_of (pos n) = n
+nat_of (negsuc n) = 0
+
+pub is_refused : (why : Refused) (status : ℤ) → status ≡ pos (refusal_number why) → status ≢ pos 0
+is_refused why status told done = let none : refusal_number why ≡ 0 = ap nat_of (sym told ∙ done) in omega (arith, positive why, none)

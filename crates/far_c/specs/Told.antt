@@ -1,0 +1,26 @@
+-- Statuses.
+use Rattle.std.specs.Prelude.{◌≡◌, ◌⊎◌, ℤ, pos}
+use Rattle.far_word.specs.declared.refused.Refused.{Refused}
+use Rattle.far_word.specs.Refused.{refusal_number}
+use Rattle.far_pool.specs.Plans.{IsUnplanned}
+use Rattle.far_pool.specs.declared.plan.Plan.{Plan}
+use Rattle.far_pool.specs.declared.plan.Unplanned.{Unplanned}
+use Rattle.far_pool.specs.declared.plan.Unplanned.TheVariants.{Length, Near, Objects}
+
+-- a status is the number of a refusal that came for this cause
+abbrev pub IsToldBy : (Refused → Type 0) → ℤ → Type 0
+IsToldBy Cause status = (why : Refused) × (status ≡ pos (refusal_number why)) × Cause why
+
+-- the status of a plan that can't be laid out
+abbrev pub unplanned_number : Unplanned → ℤ
+unplanned_number Length = pos 4
+unplanned_number (Objects most) = pos 22
+unplanned_number (Near least) = pos 23
+
+-- a plan can't be laid out, and this is its status
+abbrev pub IsUnlaid : Plan → ℤ → Type 0
+IsUnlaid plan status = (why : Unplanned) × (status ≡ unplanned_number why) × IsUnplanned plan why
+
+-- why a worker wasn't opened: memory was refused, or its plan can't be laid out
+abbrev pub IsWhyShut : Plan → ℤ → Type 0
+IsWhyShut plan status = (status ≡ pos 1) ⊎ IsUnlaid plan status

@@ -1,0 +1,39 @@
+//! What calls answer.
+
+ghost use Rattle.std.specs.Prelude.{◌≡◌, ◌≢◌, pos};
+ghost use Rattle.far_word.specs.Refused.{refusal_number};
+
+use far_word::Refused;
+
+/// The call was done.
+pub const FAR_OK: i32 = 0;
+
+/// Memory is refused.
+pub const FAR_MEMORY: i32 = 1;
+
+/// A length is none that an object has: 1 to 4,088.
+pub const FAR_LENGTH: i32 = 4;
+
+/// The worker has no such object.
+pub const FAR_NOT_HELD: i32 = 7;
+
+/// The worker isn't open.
+pub const FAR_CLOSED: i32 = 20;
+
+/// The worker is open.
+pub const FAR_OPEN: i32 = 21;
+
+/// A worker has at most 2^32 objects.
+pub const FAR_OBJECTS: i32 = 22;
+
+/// There is no room near for so many objects.
+pub const FAR_NEAR: i32 = 23;
+
+// The status of a refusal.
+#[tactic(auto, using(crate::proofs::Statuses::is_refused))]
+pub(crate) fn status_of(why: Refused) -> i32
+    ensures number { result ≡ pos (refusal_number why) }
+    ensures refused { result ≢ FAR_OK }
+{
+    why.number() as i32
+}
