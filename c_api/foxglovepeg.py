@@ -45,7 +45,7 @@ class _Worker(c.Structure):
 class Statistics(c.Structure):
     """What a worker has, and what it has done since it was opened."""
 
-    WORDS = "near_objects far_objects live dead unused far_bytes accesses fetches evictions writes_spared moves rounds device_faults".split()
+    WORDS = "near_objects far_objects live dead unused far_bytes accesses fetches looks evictions writes_spared moves rounds device_faults".split()
     _fields_ = [(word, c.c_uint64) for word in WORDS] + [("heaps", c.c_uint32)]
 
     def __repr__(self) -> str:

@@ -62,6 +62,7 @@ struct far_statistics {
     uint64_t far_bytes;     /* bytes of the objects packed in memory */
     uint64_t accesses;      /* reads and writes, refused ones too */
     uint64_t fetches;       /* objects that were brought near */
+    uint64_t looks;         /* reads of far objects where these lie, also those that failed */
     uint64_t evictions;     /* objects that went far */
     uint64_t writes_spared; /* those of them that were packed with these bytes already */
     uint64_t moves;         /* objects that went to another place near */

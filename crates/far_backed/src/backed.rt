@@ -5,7 +5,7 @@ ghost use Rattle.far_word.specs.declared.refused.Refused.{Refused as Refusal};
 ghost use Rattle.far_word.specs.declared.refused.Refused.TheVariants.{Length, NoRoom, NotHeld};
 ghost use Rattle.far_private.specs.Heap.{IsWhyNoAccess, is_length, new_object, object_with, size_of};
 ghost use Rattle.far_pool.specs.Pool.{Changes, IsWhyNone, Makes, NextGeneration, Same, Writes, count_in, len_at, refusal_of};
-ghost use Rattle.far_private.specs.Causes.{IsNotGiven};
+ghost use Rattle.far_private.specs.Causes.{IsFault, IsNotGiven};
 ghost use Rattle.far_pool.specs.Rooms.{IsNotTaken, IsStuck};
 ghost use Rattle.far_backed.specs.Named.{bytes_of, handle_of, object_of};
 
@@ -118,7 +118,7 @@ impl Backed {
         ensures done { OnOk result (refusal_of (object_of self.old number) from (length out.old) ≡ None) }
         ensures barred { (why : Refusal) → refusal_of (object_of self.old number) from (length out.old) ≡ Some why → result ≡ Err why }
         ensures why { IfErr result (λ why. IsWhyNoAccess self.old.honest (refusal_of (object_of self.old number) from (length out.old)) why) }
-        ensures room { result ≡ Err NoRoom → 3 ≤ self.old.logs → IsNotTaken MemDevice ⟦<MemDevice as Device>⟧.writes self.old (handle_of number).heap }
+        ensures fault { refusal_of (object_of self.old number) from (length out.old) ≡ None → IfErr result (λ why. IsFault why) }
         ensures given { IfErr result (IsNotGiven MemDevice ⟦<MemDevice as Device>⟧.reads (handle_of number).pointer (len_at self.old (handle_of number))) }
     {
         let handle = named(number);

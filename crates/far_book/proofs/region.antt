@@ -20,6 +20,7 @@ pub mod FarSide
 pub mod Fetched
 pub mod Fetching
 pub mod Founds
+pub mod Glancing
 pub mod Going
 pub mod Gone
 pub mod Handed

@@ -10,6 +10,7 @@ pub mod Effects
 pub mod Evicting
 pub mod FarSide
 pub mod Fetching
+pub mod Glancing
 pub mod HandedOn
 pub mod Home
 pub mod Jobs

@@ -36,6 +36,7 @@ ghost use Rattle.far_book.specs.book.Rows.{row_of};
 
 mod collecting;
 mod fetching;
+mod glancing;
 mod leaving;
 mod moving;
 mod next;

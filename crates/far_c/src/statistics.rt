@@ -16,6 +16,7 @@ pub struct FarStatistics {
     pub far_bytes: u64,
     pub accesses: u64,
     pub fetches: u64,
+    pub looks: u64,
     pub evictions: u64,
     pub writes_spared: u64,
     pub moves: u64,
@@ -34,6 +35,7 @@ impl FarStatistics {
         ensures far_bytes { result.far_bytes ≡ all.far_bytes }
         ensures accesses { result.accesses ≡ all.accesses }
         ensures fetches { result.fetches ≡ all.fetches }
+        ensures looks { result.looks ≡ all.looks }
         ensures evictions { result.evictions ≡ all.evictions }
         ensures writes_spared { result.writes_spared ≡ all.writes_spared }
         ensures moves { result.moves ≡ all.moves }
@@ -50,6 +52,7 @@ impl FarStatistics {
             far_bytes: all.far_bytes,
             accesses: all.accesses,
             fetches: all.fetches,
+            looks: all.looks,
             evictions: all.evictions,
             writes_spared: all.writes_spared,
             moves: all.moves,

@@ -61,6 +61,10 @@ why_open honest o n why free size w = (is_there o n size, w.1)
 pub why_whole : (honest : Bool) (o : Option Object) (n k : ℕ) (why : Refused) → IsWell honest o → size_of o ≡ Some n → k ≡ n → IsWhyNoAccess honest (refusal_of o 0 k) why → IsWhyNotWhole honest o why
 why_whole honest o n k why well size same w = why_open honest o n why (no_refusal o n honest well size) size (subst (λ m. IsWhyNoAccess honest (refusal_of o 0 m) why) same w)
 
+-- what else is told of it
+pub whole_told : {P : Type 0} (honest : Bool) (o : Option Object) (n k : ℕ) → IsWell honest o → size_of o ≡ Some n → k ≡ n → (refusal_of o 0 k ≡ None → P) → P
+whole_told honest o n k well size same told = told (subst (λ m. refusal_of o 0 m ≡ None) (sym same) (no_refusal o n honest well size))
+
 -- ---- what is found is as the law has it
 some_well : (honest b : Bool) (x : Option Object) → IsWell honest x → IsWell honest (if b then x else None)
 some_well honest true x w = w

@@ -22,6 +22,7 @@ pub record Adds (all : WorkerStatistics) (more : Statistics) (now : WorkerStatis
   pub far_bytes : now.far_bytes ≡ sum_of all.far_bytes more.far_bytes
   pub accesses : now.accesses ≡ all.accesses
   pub fetches : now.fetches ≡ sum_of all.fetches more.fetches
+  pub looks : now.looks ≡ sum_of all.looks more.looks
   pub evictions : now.evictions ≡ sum_of all.evictions more.evictions
   pub writes_spared : now.writes_spared ≡ sum_of all.writes_spared more.writes_spared
   pub moves : now.moves ≡ sum_of all.moves more.moves
@@ -30,9 +31,9 @@ pub record Adds (all : WorkerStatistics) (more : Statistics) (now : WorkerStatis
   pub worst : now.worst ≡ (compared more.device_faults all).worst
   pub worst_faults : now.worst_faults ≡ (compared more.device_faults all).worst_faults
 
--- objects that were brought near in a thousand accesses, none if there was no access
+-- far objects that were read in a thousand accesses, near or where they lie, none if there was no access
 abbrev pub misses_per_thousand : WorkerStatistics → ℕ
-misses_per_thousand s = if s.accesses == 0 then 0 else s.fetches * 1000 / s.accesses
+misses_per_thousand s = if s.accesses == 0 then 0 else (s.fetches + s.looks) * 1000 / s.accesses
 
 -- of so many heaps one is told as the worst, whose device failed so often; or no device failed
 abbrev pub IsWorst : ℕ → Option ℕ → ℕ → Type 0

@@ -6,7 +6,7 @@ ghost use Rattle.std.specs.Option.{option_map};
 ghost use Rattle.far_word.specs.declared.refused.Refused.{Refused as Refusal};
 ghost use Rattle.far_word.specs.declared.refused.Refused.TheVariants.{Memory, NoRoom, NotHeld};
 ghost use Rattle.far_word.specs.declared.sizes.TheConstants.{POINTERS};
-ghost use Rattle.far_private.specs.Causes.{IsNotGiven, IsNotTaken};
+ghost use Rattle.far_private.specs.Causes.{IsFault, IsNotGiven, IsNotTaken};
 ghost use Rattle.far_private.specs.Heap.{IsWell, IsWhyNoAccess, is_length, new_object, object, object_with, size_of, structure_of};
 ghost use Rattle.far_private.specs.Objects.{bytes_of, len_of, rewritten};
 ghost use Rattle.far_pool.specs.Pool.{IsWhyNone, IsWhyNotWhole, UpdatesOn, dropping, found, generation_on, object_on, putting, refusal_of};
@@ -149,7 +149,7 @@ impl<D: Device + Drop> Counted<D> {
         ensures done { OnOk result (refusal_of (object_on self.old pointer) from (length out.old) ≡ None) }
         ensures barred { (why : Refusal) → refusal_of (object_on self.old pointer) from (length out.old) ≡ Some why → result ≡ Err why }
         ensures why { IfErr result (λ why. IsWhyNoAccess self.old.honest (refusal_of (object_on self.old pointer) from (length out.old)) why) }
-        ensures room { result ≡ Err NoRoom → 3 ≤ self.old.logs → IsNotTaken D D.writes (object_on self.old) }
+        ensures fault { refusal_of (object_on self.old pointer) from (length out.old) ≡ None → IfErr result (λ why. IsFault why) }
         ensures given { IfErr result (λ why. IsNotGiven D D.reads pointer (len_of (object_on self.old pointer)) why) }
     {
         self.heap.read(pointer, from, out)
@@ -197,7 +197,7 @@ impl<D: Device + Drop> Counted<D> {
         ensures done { OnOk result (refusal_of (found self.old pointer generation) from (length out.old) ≡ None) }
         ensures barred { (why : Refusal) → refusal_of (found self.old pointer generation) from (length out.old) ≡ Some why → result ≡ Err why }
         ensures why { IfErr result (λ why. IsWhyNoAccess self.old.honest (refusal_of (found self.old pointer generation) from (length out.old)) why) }
-        ensures room { result ≡ Err NoRoom → 3 ≤ self.old.logs → IsNotTaken D D.writes (object_on self.old) }
+        ensures fault { refusal_of (found self.old pointer generation) from (length out.old) ≡ None → IfErr result (λ why. IsFault why) }
         ensures given { IfErr result (λ why. IsNotGiven D D.reads pointer (len_of (found self.old pointer generation)) why) }
     {
         if !self.knows(pointer, generation) {
@@ -219,7 +219,7 @@ impl<D: Device + Drop> Counted<D> {
         ensures refused { OnErr result (out.new.items ≡ []) }
         ensures barred { found self.old pointer generation ≡ None → result ≡ Err NotHeld }
         ensures why { IfErr result (λ why. IsWhyNotWhole self.old.honest (found self.old pointer generation) why) }
-        ensures room { result ≡ Err NoRoom → 3 ≤ self.old.logs → IsNotTaken D D.writes (object_on self.old) }
+        ensures fault { is_some (found self.old pointer generation) ≡ true → IfErr result (λ why. IsFault why) }
         ensures given { IfErr result (λ why. why ≢ Memory → IsNotGiven D D.reads pointer (len_of (found self.old pointer generation)) why) }
     {
         self.keeps_law();

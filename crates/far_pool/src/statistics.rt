@@ -27,6 +27,8 @@ pub struct WorkerStatistics {
     pub accesses: u64,
     /// Objects that were brought near.
     pub fetches: u64,
+    /// Reads of far objects where these lie, also those that failed.
+    pub looks: u64,
     /// Objects that went far.
     pub evictions: u64,
     /// Those of them that were not written, as the device had their bytes.
@@ -61,6 +63,7 @@ impl WorkerStatistics {
             far_bytes: 0,
             accesses,
             fetches: 0,
+            looks: 0,
             evictions: 0,
             writes_spared: 0,
             moves: 0,
@@ -95,6 +98,7 @@ impl WorkerStatistics {
         self.unused = self.unused.saturating_add(more.unused);
         self.far_bytes = self.far_bytes.saturating_add(more.far_bytes);
         self.fetches = self.fetches.saturating_add(more.fetches);
+        self.looks = self.looks.saturating_add(more.looks);
         self.evictions = self.evictions.saturating_add(more.evictions);
         self.writes_spared = self.writes_spared.saturating_add(more.writes_spared);
         self.moves = self.moves.saturating_add(more.moves);
@@ -102,14 +106,15 @@ impl WorkerStatistics {
         self.device_faults = self.device_faults.saturating_add(more.device_faults);
     }
 
-    /// How many objects were brought near in a thousand accesses, rounded down; 0 where there was no access.
+    /// How many far objects were read in a thousand accesses, whether or not they came near, rounded down; 0 where there was no access.
     pub fn misses_per_thousand(&self) -> u64
-        ensures { self.now.fetches ≤ 2 ^ 54 → result ≡ misses_per_thousand self.now }
+        ensures { self.now.fetches + self.now.looks ≤ 2 ^ 54 → result ≡ misses_per_thousand self.now }
     {
         if self.accesses == 0 {
             return 0;
         }
-        self.fetches.saturating_mul(1000) / self.accesses
+        let misses = self.fetches.saturating_add(self.looks);
+        misses.saturating_mul(1000) / self.accesses
     }
 
     // What it has, in words.
@@ -125,10 +130,11 @@ impl WorkerStatistics {
     fn tell_work<W: fmt::Write>(&self, f: &mut fmt::Formatter<W>) -> fmt::Result {
         write!(
             f,
-            " accesses {} misses_per_thousand {} fetches {} evictions {} spared {} moves {} rounds {}",
+            " accesses {} misses_per_thousand {} fetches {} looks {} evictions {} spared {} moves {} rounds {}",
             self.accesses,
             self.misses_per_thousand(),
             self.fetches,
+            self.looks,
             self.evictions,
             self.writes_spared,
             self.moves,

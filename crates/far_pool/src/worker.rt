@@ -4,7 +4,7 @@ ghost use Rattle.std.specs.Prelude.{◌≡◌, ◌≢◌, ◌<◌, ◌+◌, ◌�
 ghost use Rattle.std.specs.Fn.{FnOnceReturnsAtMut, FnOnceTakesAtMut};
 ghost use Rattle.far_word.specs.declared.refused.Refused.{Refused as Refusal};
 ghost use Rattle.far_word.specs.declared.refused.Refused.TheVariants.{Length, Memory, NoRoom, NotHeld};
-ghost use Rattle.far_private.specs.Causes.{IsNotGiven};
+ghost use Rattle.far_private.specs.Causes.{IsFault, IsNotGiven};
 ghost use Rattle.far_private.specs.Heap.{IsWell, IsWhyNoAccess, is_length, new_object, object_with, size_of, structure_of};
 ghost use Rattle.far_pool.specs.declared.handle.Handle.{Handle as AnyHandle};
 ghost use Rattle.far_pool.specs.Pool.{Changes, IsWhyNone, IsWhyNotWhole, Makes, NextGeneration, Same, Updates, Writes, at, bytes_at, generation_in, generation_on, has, len_at, object_on, refusal_of};
@@ -293,12 +293,12 @@ impl<D: Device + Drop, M: MakeDevice<D> + Drop> Worker<D, M> {
         self.alloc_in(heap, bytes, structure)
     }
 
-    /// Reads bytes of an object, from one on, as many as `out` has: as they were written last, if the devices are honest.
+    /// Reads bytes of an object, from one on, as many as `out` has: as they were written last, if the devices are honest. A far one is read where it lies, and comes near
+    /// once it is read again of late and room can be made for it.
     ///
     /// Refused, in this order: [`Refused::NotHeld`] exactly where the worker hasn't got the object, as of a handle whose object was dropped; [`Refused::Range`] exactly
-    /// where `out` has no byte or they pass the object's end; and then only [`Refused::NoRoom`] or [`Refused::EpochsSpent`] as `alloc`, of the handle's heap,
-    /// [`Refused::Memory`] or [`Refused::Device`] where the device, asked for this object, failed so, and [`Refused::Damaged`] where it gave more or fewer bytes, which no
-    /// honest one does.
+    /// where `out` has no byte or they pass the object's end; and then only [`Refused::Memory`] or [`Refused::Device`] where the device, asked for this object, failed so,
+    /// and [`Refused::Damaged`] where it gave more or fewer bytes, which no honest one does.
     #[inline(always)]
     pub fn read(&mut self, handle: Handle, from: usize, out: &mut [u8]) -> Result<(), Refused>
         ensures same { self.new ≡ self.old }
@@ -307,7 +307,7 @@ impl<D: Device + Drop, M: MakeDevice<D> + Drop> Worker<D, M> {
         ensures done { OnOk result (refusal_of (at self.old handle) from (length out.old) ≡ None) }
         ensures barred { (why : Refusal) → refusal_of (at self.old handle) from (length out.old) ≡ Some why → result ≡ Err why }
         ensures why { IfErr result (λ why. IsWhyNoAccess self.old.honest (refusal_of (at self.old handle) from (length out.old)) why) }
-        ensures room { result ≡ Err NoRoom → 3 ≤ self.old.logs → IsNotTaken D D.writes self.old handle.heap }
+        ensures fault { refusal_of (at self.old handle) from (length out.old) ≡ None → IfErr result (λ why. IsFault why) }
         ensures given { IfErr result (λ why. IsNotGiven D D.reads handle.pointer (len_at self.old handle) why) }
     {
         self.parts.accesses = self.parts.accesses.wrapping_add(1);
@@ -318,7 +318,8 @@ impl<D: Device + Drop, M: MakeDevice<D> + Drop> Worker<D, M> {
         self.parts.shelves[at].read(handle.pointer, handle.generation, from, out)
     }
 
-    /// Writes bytes over those of an object, from one on. Refused as [`Worker::read`] is; then nothing has changed.
+    /// Writes bytes over those of an object, from one on, which comes near for it. Refused as [`Worker::read`] is, and [`Refused::NoRoom`] or [`Refused::EpochsSpent`] as
+    /// `alloc`, of the handle's heap; then nothing has changed.
     #[inline(always)]
     pub fn write(&mut self, handle: Handle, from: usize, bytes: &[u8]) -> Result<(), Refused>
         ensures written { OnOk result (Writes handle from bytes.now self.old self.new) }
@@ -338,7 +339,7 @@ impl<D: Device + Drop, M: MakeDevice<D> + Drop> Worker<D, M> {
     }
 
     /// Reads bytes of an object, from one on, as many as there is room for, has them changed by one call of `change`, and writes them back: one access, where
-    /// [`Worker::read`] and [`Worker::write`] are two. `bytes` has what was written then. Refused as [`Worker::read`] is; then nothing has changed, and `change` wasn't
+    /// [`Worker::read`] and [`Worker::write`] are two. `bytes` has what was written then. Refused as [`Worker::write`] is; then nothing has changed, and `change` wasn't
     /// called.
     pub fn update<F: FnOnce(&mut [u8])>(
         &mut self,
@@ -376,7 +377,7 @@ impl<D: Device + Drop, M: MakeDevice<D> + Drop> Worker<D, M> {
         ensures refused { OnErr result (out.new.items ≡ []) }
         ensures barred { at self.old handle ≡ None → result ≡ Err NotHeld }
         ensures why { IfErr result (λ why. IsWhyNotWhole self.old.honest (at self.old handle) why) }
-        ensures room { result ≡ Err NoRoom → 3 ≤ self.old.logs → IsNotTaken D D.writes self.old handle.heap }
+        ensures fault { has self.old handle ≡ true → IfErr result (λ why. IsFault why) }
         ensures given { IfErr result (λ why. why ≢ Memory → IsNotGiven D D.reads handle.pointer (len_at self.old handle) why) }
     {
         self.parts.accesses = self.parts.accesses.wrapping_add(1);

@@ -214,9 +214,9 @@ never_honest false b h e = refl
 module _ {D : Type 0} (reads : D → ℕ → Result (List ℕ) DeviceFault → D → Type 0) (lets_go : D → ℕ → D → Type 0) (still : Type 0) (s : State) (p : ℕ) (before after : D) (honest : Bool) (agrees : s.honest ≡ true → honest ≡ true) where
   why_far : (t : State) (why : Refused) → RefusesFetch why (room_for s p) honest → AsksToFetch D reads lets_go still s t p (Err why) before after → WhyFar D reads s p after why
   why_far t NoRoom none asked = none
-  why_far t Memory some asked = (some, before, asked)
-  why_far t Device some asked = (some, before, asked)
-  why_far t Damaged some asked = (some.0, never_honest s.honest honest agrees some.1, before, asked.0, asked.1, asked.2)
+  why_far t Memory some asked = (before, asked)
+  why_far t Device some asked = (before, asked)
+  why_far t Damaged some asked = (never_honest s.honest honest agrees some.1, before, asked.0, asked.1, asked.2)
   why_far t _ none asked = absurd none
 
   pub far_stays : (t : State) (why : Refused) → says_near (read_of (s.cell p)) ≡ false → RefusesFetch why (room_for s p) honest → AsksToFetch D reads lets_go still s t p (Err why) before after → t ≡ s → StaysFar D reads t p after why

@@ -18,6 +18,7 @@ pub mod LastRounds
 pub mod LastSteps
 pub mod Lawful
 pub mod LiveBytes
+pub mod Looks
 pub mod NewBytes
 pub mod NotGiven
 pub mod Outside

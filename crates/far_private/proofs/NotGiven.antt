@@ -34,16 +34,16 @@ far_has h word stored p (Some (Near len ds place m)) some far = absurd (true≢f
 far_has h word stored p (Some Free) some far = absurd (false≢true some)
 far_has h word stored p None some far = absurd (false≢true some)
 
-far_long : (s : State) (p : ℕ) → IsSome ((objects_of s).object p) → says_near (read_of (s.cell p)) ≡ false → far_len (read_of (s.cell p)) ≡ len_of ((objects_of s).object p)
+pub far_long : (s : State) (p : ℕ) → IsSome ((objects_of s).object p) → says_near (read_of (s.cell p)) ≡ false → far_len (read_of (s.cell p)) ≡ len_of ((objects_of s).object p)
 unfolding world_of
 far_long s p some far = far_has s.honest s.word (s.stored p) p (read_of (s.cell p)) some far
 
 -- ---- what the device answered
 module _ {D : Type 0} (reads : D → ℕ → Result (List ℕ) DeviceFault → D → Type 0) (s : State) (p : ℕ) (device : D) (len : ℕ) where
   by_cause : (why : Refused) → far_len (read_of (s.cell p)) ≡ len → WhyFar D reads s p device why → IsNotGiven D reads p len why
-  by_cause Memory e (room, before, asked) = (before, device, asked)
-  by_cause Device e (room, before, asked) = (before, device, asked)
-  by_cause Damaged e (room, lies, before, bytes, asked, other) = (before, bytes, device, asked, λ x. other (x ∙ sym e))
+  by_cause Memory e (before, asked) = (before, device, asked)
+  by_cause Device e (before, asked) = (before, device, asked)
+  by_cause Damaged e (lies, before, bytes, asked, other) = (before, bytes, device, asked, λ x. other (x ∙ sym e))
   by_cause _ e h = tt
 
   want_given : (why : Refused) → IsWant why → IsNotGiven D reads p len why

@@ -22,7 +22,7 @@ module _ {D : Type 0} (reads : D → ℕ → Result (List ℕ) DeviceFault → D
   why_outside NoRoom h = tt
   why_outside EpochsSpent h = tt
   why_outside Device h = tt
-  why_outside Damaged h = h.1
+  why_outside Damaged h = h.0
   why_outside _ h = absurd h
 
   -- a far object that doesn't come

@@ -28,6 +28,13 @@ IsWant NoRoom = Unit {0}
 IsWant EpochsSpent = Unit {0}
 IsWant why = ⊥
 
+-- the refusals of a device that was asked for an object: no room is wanted
+abbrev pub IsFault : Refused → Type 0
+IsFault Memory = Unit {0}
+IsFault Device = Unit {0}
+IsFault Damaged = Unit {0}
+IsFault why = ⊥
+
 -- what a call that found no room answers, by what its last round came to
 abbrev pub told : Refused → Result (Unit {0}) Refused → Refused
 told NoRoom (Err last) = last
@@ -40,14 +47,14 @@ pub record IsCrowded (s : State) (p : ℕ) (why : Refused) : Type 0 where
   pub none : goal s p ≡ None
 
 module _ (D : Type 0) (reads : D → ℕ → Result (List ℕ) DeviceFault → D → Type 0) where
-  -- why a far object doesn't come: there is no room for it, in the open log or in a free one but the last; or there is, and the last thing that the device was asked was a read of it,
+  -- why a far object doesn't come: there is no room for it, in the open log or in a free one but the last; or the last thing that the device was asked was a read of it,
   -- which had this fault, or gave more or fewer bytes than the object has, as no honest far side does
   abbrev pub WhyFar : State → ℕ → D → Refused → Type 0
   WhyFar s p device NoRoom = room_for s p ≡ None
   WhyFar s p device EpochsSpent = room_for s p ≡ None
-  WhyFar s p device Memory = IsSome (room_for s p) × (before : D) × reads before p (Err fault.Memory) device
-  WhyFar s p device Device = IsSome (room_for s p) × (before : D) × reads before p (Err fault.Device) device
-  WhyFar s p device Damaged = IsSome (room_for s p) × (s.honest ≡ false) × (before : D) × (bytes : List ℕ) × reads before p (Ok bytes) device × (length bytes ≢ far_len (read_of (s.cell p)))
+  WhyFar s p device Memory = (before : D) × reads before p (Err fault.Memory) device
+  WhyFar s p device Device = (before : D) × reads before p (Err fault.Device) device
+  WhyFar s p device Damaged = (s.honest ≡ false) × (before : D) × (bytes : List ℕ) × reads before p (Ok bytes) device × (length bytes ≢ far_len (read_of (s.cell p)))
   WhyFar s p device why = ⊥
 
   -- an object is far, and stays so

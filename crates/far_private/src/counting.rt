@@ -31,6 +31,8 @@ pub struct Statistics {
     pub far_bytes: u64,
     /// Objects that were brought near.
     pub fetches: u64,
+    /// Reads of far objects where these lie, also those that failed.
+    pub looks: u64,
     /// Objects that went far.
     pub evictions: u64,
     /// Those of them that were not written, as the device had their bytes.
@@ -43,8 +45,8 @@ pub struct Statistics {
     pub device_faults: u64,
 }
 
-/// Tells what a heap has, and what it has done. Nothing changes.
-pub(crate) fn tell<D: Device + Drop>(evac: &Evac<Plain, D>) -> Statistics
+/// Tells what a heap has, and what it has done: so many looks were made. Nothing changes.
+pub(crate) fn tell<D: Device + Drop>(evac: &Evac<Plain, D>, looks: u64) -> Statistics
     ensures objects { result.near + result.far ≡ length (filter (λ p. is_some ((objects_of (state_in evac.now)).object p)) (range_with_len 0 2048)) }
     ensures far { result.far ≡ length (filter (lies_far (state_in evac.now)) (range_with_len 0 2048)) }
     ensures far_bytes { result.far_bytes ≡ sum (map (far_len (state_in evac.now)) (range_with_len 0 2048)) }
@@ -65,6 +67,7 @@ pub(crate) fn tell<D: Device + Drop>(evac: &Evac<Plain, D>) -> Statistics
         unused,
         far_bytes,
         fetches: done.fetched,
+        looks,
         evictions: evictions(done.written, done.spared),
         writes_spared: done.spared,
         moves: done.moved,

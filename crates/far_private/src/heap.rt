@@ -5,7 +5,7 @@ ghost use Rattle.far_word.specs.declared.refused.Refused.{Refused as Refusal};
 ghost use Rattle.far_word.specs.declared.refused.Refused.TheVariants.{Length, NoPointer, NoRoom, NotHeld};
 ghost use Rattle.far_word.specs.declared.sizes.TheConstants.{POINTERS};
 ghost use Rattle.std.specs.Option.{option_map};
-ghost use Rattle.far_private.specs.Causes.{IsNotGiven, IsNotTaken};
+ghost use Rattle.far_private.specs.Causes.{IsFault, IsNotGiven, IsNotTaken};
 ghost use Rattle.far_private.specs.Objects.{rewritten};
 ghost use Rattle.far_private.specs.Heap.{HeapLaw, IsFull, IsWhyNoAccess, IsWhyNoObject, access_refusal, bytes_in, is_length, len_in, object, with_new, with_written, without, new_object, is_logs};
 
@@ -13,6 +13,7 @@ mod calls;
 
 use crate::cells::core_of;
 use crate::free_pointers::FreePointers;
+use crate::glances::Glances;
 use crate::places::{drop_used, free_pointer, place_new};
 use crate::ranges::{read_range, write_range};
 use far_book::{Book, Plain};
@@ -29,6 +30,8 @@ pub struct PrivateHeap<D: Device + Drop> {
     evac: Evac<Plain, D>,
     // The pointers that have no object. The lowest is given to the next one.
     free: FreePointers,
+    // Which far objects were read of late where they lie: one that is read again comes near.
+    glances: Glances,
 }
 
 impl<D: Device + Drop> Model for PrivateHeap<D> {
@@ -76,6 +79,7 @@ impl<D: Device + Drop> PrivateHeap<D> {
         Ok(PrivateHeap {
             evac: Evac::new(book),
             free: FreePointers::all(),
+            glances: Glances::none(),
         })
     }
 
@@ -121,12 +125,12 @@ impl<D: Device + Drop> PrivateHeap<D> {
         }
     }
 
-    /// Reads bytes of an object, from one on, as many as there is room for.
+    /// Reads bytes of an object, from one on, as many as there is room for. A far one is read where it lies, and comes near once it is read again of late
+    /// and room can be made for it.
     ///
     /// Refused, in this order: [`Refused::NotHeld`] where the pointer has no object, [`Refused::Range`] where no byte is asked for
-    /// or one past the object's end, and then only [`Refused::NoRoom`] or [`Refused::EpochsSpent`] as `alloc`, [`Refused::Memory`] or
-    /// [`Refused::Device`] where the device, asked for this object, failed so, and [`Refused::Damaged`] where it gave more or fewer bytes, which
-    /// no honest one does.
+    /// or one past the object's end, and then only [`Refused::Memory`] or [`Refused::Device`] where the device, asked for this object, failed so, and
+    /// [`Refused::Damaged`] where it gave more or fewer bytes, which no honest one does.
     pub fn read(&mut self, pointer: u16, from: usize, out: &mut [u8]) -> Result<(), Refused>
         ensures same { self.new ≡ self.old }
         ensures long { length out.new ≡ length out.old }
@@ -134,13 +138,14 @@ impl<D: Device + Drop> PrivateHeap<D> {
         ensures done { OnOk result (access_refusal self.old pointer from (length out.old) ≡ None) }
         ensures barred { (why : Refusal) → access_refusal self.old pointer from (length out.old) ≡ Some why → result ≡ Err why }
         ensures why { IfErr result (λ why. IsWhyNoAccess self.old.honest (access_refusal self.old pointer from (length out.old)) why) }
-        ensures room { result ≡ Err NoRoom → 3 ≤ self.old.logs → IsNotTaken D D.writes (object self.old) }
+        ensures fault { access_refusal self.old pointer from (length out.old) ≡ None → IfErr result (λ why. IsFault why) }
         ensures given { IfErr result (λ why. IsNotGiven D D.reads pointer (len_in self.old pointer) why) }
     {
-        read_range(&mut self.evac, pointer, from, out)
+        read_range(&mut self.evac, &mut self.glances, pointer, from, out)
     }
 
-    /// Writes bytes over those of an object, from one on. Refused as `read`, and nothing has changed then.
+    /// Writes bytes over those of an object, from one on, which comes near for it. Refused as `read`, and [`Refused::NoRoom`] or [`Refused::EpochsSpent`] as `alloc`;
+    /// nothing has changed then.
     pub fn write(&mut self, pointer: u16, from: usize, bytes: &[u8]) -> Result<(), Refused>
         ensures written { OnOk result (self.new ≡ with_written pointer from bytes.now self.old) }
         ensures object { OnOk result (object self.new pointer ≡ option_map (rewritten from bytes.now) (object self.old pointer)) }

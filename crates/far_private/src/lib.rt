@@ -9,6 +9,7 @@ mod changing;
 mod counting;
 mod free_pointers;
 mod freeing;
+mod glances;
 mod heap;
 mod last;
 mod laws;

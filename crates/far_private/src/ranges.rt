@@ -7,7 +7,7 @@ ghost use Rattle.far_word.specs.declared.sizes.TheConstants.{LONGEST};
 ghost use Rattle.far_word.specs.Pointer.{read_of};
 ghost use Rattle.far_core.specs.state.Room.{free_logs};
 ghost use Rattle.far_alone.specs.Dereference.{says_near};
-ghost use Rattle.far_private.specs.Causes.{IsStuck, StaysAway, StaysFar};
+ghost use Rattle.far_private.specs.Causes.{IsFault, IsStuck, StaysAway, StaysFar};
 ghost use Rattle.far_private.specs.Heap.{IsOutside};
 ghost use Rattle.far_private.specs.Objects.{IsRead, Settled, access_refusal, bytes_in, len_in, objects_of, state_in, with_written};
 ghost use Rattle.far_private.specs.Steps.{Keeps};
@@ -16,6 +16,7 @@ use crate::access::{overwrite, overwrite_cold, warm};
 use crate::bringing::{bring_anew, fetch_far};
 use crate::budget::Rounds;
 use crate::cells::{core_of, is_near, rests};
+use crate::glances::Glances;
 use crate::last::{last_round, told};
 use crate::nearby::copy_near;
 use far_book::Plain;
@@ -67,6 +68,7 @@ pub(crate) fn used_len<D: Device + Drop>(evac: &Evac<Plain, D>, pointer: u16) ->
 /// Reads a range of an object.
 pub(crate) fn read_range<D: Device + Drop>(
     evac: &mut Evac<Plain, D>,
+    glances: &mut Glances,
     pointer: u16,
     from: usize,
     out: &mut [u8],
@@ -77,18 +79,118 @@ pub(crate) fn read_range<D: Device + Drop>(
     ensures barred { (why : Refusal) → access_refusal (objects_of (state_in evac.old)) pointer from (length out.old) ≡ Some why → result ≡ Err why }
     ensures outside { access_refusal (objects_of (state_in evac.old)) pointer from (length out.old) ≡ None → IfErr result (λ why. IsOutside (state_in evac.old).honest why) }
     ensures far { access_refusal (objects_of (state_in evac.old)) pointer from (length out.old) ≡ None → IfErr result (λ why. StaysFar D D.reads (state_in evac.new) pointer evac.new.book.device why) }
-    ensures stuck { IfErr result (λ why. IsStuck D D.writes (state_in evac.old) why) }
+    ensures fault { access_refusal (objects_of (state_in evac.old)) pointer from (length out.old) ≡ None → IfErr result (λ why. IsFault why) }
     ensures near { access_refusal (objects_of (state_in evac.old)) pointer from (length out.old) ≡ None → says_near (read_of ((state_in evac.old).cell pointer)) ≡ true → result ≡ Ok tt }
 {
     match reach(evac, pointer, from, out.len()) {
         Ok(()) => {}
         Err(why) => return Err(why),
     }
-    read_reached(evac, pointer, from as u16, out)
+    read_reached(evac, glances, pointer, from as u16, out)
 }
 
 // Reads a range that lies in an object.
+#[inline(always)]
 fn read_reached<D: Device + Drop>(
+    evac: &mut Evac<Plain, D>,
+    glances: &mut Glances,
+    pointer: u16,
+    from: u16,
+    out: &mut [u8],
+) -> Result<(), Refused>
+    requires settled { Settled (state_in evac.old) }
+    requires used { (state_in evac.old).used pointer ≡ true }
+    requires some { 0 < length out.old }
+    requires inside { from + length out.old ≤ len_in (objects_of (state_in evac.old)) pointer }
+    requires most { from + length out.old ≤ LONGEST }
+    ensures keeps { Keeps (state_in evac.old) (state_in evac.new) }
+    ensures read { OnOk result (IsRead (objects_of (state_in evac.old)) pointer from (length out.old) out.new) }
+    ensures far { IfErr result (λ why. StaysFar D D.reads (state_in evac.new) pointer evac.new.book.device why) }
+    ensures near { says_near (read_of ((state_in evac.old).cell pointer)) ≡ true → result ≡ Ok tt }
+    ensures given { IfErr result (λ why. IsFault why) }
+{
+    core_of(evac).keeps_law();
+    if is_near(core_of(evac).cell(pointer)) {
+        read_near(evac, pointer, from, out);
+        return Ok(());
+    }
+    read_away(evac, glances, pointer, from, out)
+}
+
+// The same of a far one. One that was looked at of late comes near, if room can be made; else it is read where it is.
+#[inline(never)]
+fn read_away<D: Device + Drop>(
+    evac: &mut Evac<Plain, D>,
+    glances: &mut Glances,
+    pointer: u16,
+    from: u16,
+    out: &mut [u8],
+) -> Result<(), Refused>
+    requires settled { Settled (state_in evac.old) }
+    requires used { (state_in evac.old).used pointer ≡ true }
+    requires far { says_near (read_of ((state_in evac.old).cell pointer)) ≡ false }
+    requires some { 0 < length out.old }
+    requires inside { from + length out.old ≤ len_in (objects_of (state_in evac.old)) pointer }
+    requires most { from + length out.old ≤ LONGEST }
+    ensures keeps { Keeps (state_in evac.old) (state_in evac.new) }
+    ensures read { OnOk result (IsRead (objects_of (state_in evac.old)) pointer from (length out.old) out.new) }
+    ensures far { IfErr result (λ why. StaysFar D D.reads (state_in evac.new) pointer evac.new.book.device why) }
+    ensures given { IfErr result (λ why. IsFault why) }
+{
+    if !glances.again(pointer) {
+        return read_there(evac, glances, pointer, from, out);
+    }
+    read_coming(evac, glances, pointer, from, out)
+}
+
+// The same; it comes near, if room can be made.
+fn read_coming<D: Device + Drop>(
+    evac: &mut Evac<Plain, D>,
+    glances: &mut Glances,
+    pointer: u16,
+    from: u16,
+    out: &mut [u8],
+) -> Result<(), Refused>
+    requires settled { Settled (state_in evac.old) }
+    requires used { (state_in evac.old).used pointer ≡ true }
+    requires far { says_near (read_of ((state_in evac.old).cell pointer)) ≡ false }
+    requires some { 0 < length out.old }
+    requires inside { from + length out.old ≤ len_in (objects_of (state_in evac.old)) pointer }
+    requires most { from + length out.old ≤ LONGEST }
+    ensures keeps { Keeps (state_in evac.old) (state_in evac.new) }
+    ensures read { OnOk result (IsRead (objects_of (state_in evac.old)) pointer from (length out.old) out.new) }
+    ensures far { IfErr result (λ why. StaysFar D D.reads (state_in evac.new) pointer evac.new.book.device why) }
+    ensures given { IfErr result (λ why. IsFault why) }
+{
+    match read_brought(evac, pointer, from, out) {
+        Err(Refused::NoRoom) => read_there(evac, glances, pointer, from, out),
+        Err(Refused::EpochsSpent) => read_there(evac, glances, pointer, from, out),
+        answer => answer,
+    }
+}
+
+// The same where it is, and it stays there.
+fn read_there<D: Device + Drop>(
+    evac: &mut Evac<Plain, D>,
+    glances: &mut Glances,
+    pointer: u16,
+    from: u16,
+    out: &mut [u8],
+) -> Result<(), Refused>
+    requires used { (state_in evac.old).used pointer ≡ true }
+    requires far { says_near (read_of ((state_in evac.old).cell pointer)) ≡ false }
+    requires inside { from + length out.old ≤ len_in (objects_of (state_in evac.old)) pointer }
+    ensures keeps { Keeps (state_in evac.old) (state_in evac.new) }
+    ensures read { OnOk result (IsRead (objects_of (state_in evac.old)) pointer from (length out.old) out.new) }
+    ensures far { IfErr result (λ why. StaysFar D D.reads (state_in evac.new) pointer evac.new.book.device why) }
+    ensures given { IfErr result (λ why. IsFault why) }
+{
+    glances.count_look();
+    evac.glance(pointer, from, out)
+}
+
+// The same, and it comes near.
+fn read_brought<D: Device + Drop>(
     evac: &mut Evac<Plain, D>,
     pointer: u16,
     from: u16,

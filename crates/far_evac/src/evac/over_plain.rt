@@ -18,7 +18,9 @@ ghost use Rattle.far_core.specs.world.WorldOf.{world_of};
 ghost use Rattle.far_hand.specs.Makers.{is_owners};
 ghost use Rattle.far_hand.specs.Others.{OthersChange};
 ghost use Rattle.far_book.specs.book.Actions.{Does, Owns};
-ghost use Rattle.far_book.specs.book.Placing.{PlacesWith};
+ghost use Rattle.far_book.specs.book.Fetching.{IsFar};
+ghost use Rattle.far_book.specs.book.Glancing.{Glances, len_there};
+ghost use Rattle.far_book.specs.book.Placing.{PlacesWith, core_in};
 ghost use Rattle.far_book.specs.book.SealedLogs.{KeepsSealed};
 ghost use Rattle.far_evac.specs.EvacOf.{SameRound};
 
@@ -102,6 +104,20 @@ impl<D: Device + Drop> Evac<Plain, D> {
         ensures round { SameRound self.old self.new }
     {
         self.book.place_with(owner, pointer, len, ds, bytes)
+    }
+
+    /// Reads bytes of a far object, from one on, as many as `out` has, and leaves it far: as they were stored last, where the far side is honest.
+    ///
+    /// Refused [`Refused::Memory`] or [`Refused::Device`], which are the device's, and [`Refused::Damaged`], if the device gave more or fewer bytes than the
+    /// object has. Refused or not, no word has changed, and the device holds what it held.
+    pub fn glance(&mut self, pointer: u16, from: u16, out: &mut [u8]) -> Result<(), Refused>
+        requires far { IsFar (core_in self.old.book) pointer }
+        requires inside { from + length out.old ≤ len_there (core_in self.old.book) pointer }
+        ensures long { length out.new ≡ length out.old }
+        ensures glances { Glances D.reads D.contents self.old.book self.new.book pointer from out.new result }
+        ensures round { SameRound self.old self.new }
+    {
+        self.book.glance(pointer, from, out)
     }
 
     /// An owner sets MOVE or DROP on a pointer that it uses and doesn't hold, and uses no longer what it drops: the word before.

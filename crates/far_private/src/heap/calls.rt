@@ -122,7 +122,7 @@ impl<D: Device + Drop> PrivateHeap<D> {
         ensures spared { result.writes_spared ≤ result.evictions }
         ensures rounds { result.rounds < 2 ^ 62 }
     {
-        tell(&self.evac)
+        tell(&self.evac, self.glances.looks())
     }
 }
 

@@ -69,7 +69,7 @@ fn make(worker: &mut Worker<FileDevice<Shut>, ShutDevices>) -> Result<(u64, Hand
     Ok((made, first))
 }
 
-// Reads the first, which is far, and one that isn't there. Each call is an access; the heap whose device takes nothing is the worst.
+// Reads the first, which is far and comes near at the second read, and one that isn't there. Each call is an access; the heap whose device takes nothing is the worst.
 fn is_told(alloc: Global) -> Result<bool, Refused> {
     let layout = Layout { heaps: 3, logs: 3 };
     let mut worker = Worker::new(alloc, ShutDevices { alloc }, layout, false)?;
@@ -84,11 +84,13 @@ fn is_told(alloc: Global) -> Result<bool, Refused> {
         none == Err(Refused::NotHeld)
             && whole.len() == 400
             && before.accesses == made.saturating_mul(3)
+            && before.looks == 0
             && before.fetches == 0
             && before.misses_per_thousand() == 0
             && told.accesses == before.accesses.saturating_add(3)
+            && told.looks == 1
             && told.fetches == 1
-            && told.misses_per_thousand() == 4
+            && told.misses_per_thousand() == 8
             && told.worst == Some(2)
             && told.worst_faults == told.device_faults
             && told.worst_faults > 10,
@@ -109,7 +111,8 @@ const TOLD: WorkerStatistics = WorkerStatistics {
     unused: 6,
     far_bytes: 7,
     accesses: 8000,
-    fetches: 9,
+    fetches: 3,
+    looks: 6,
     evictions: 10,
     writes_spared: 11,
     moves: 12,
@@ -120,7 +123,7 @@ const TOLD: WorkerStatistics = WorkerStatistics {
 };
 
 const LINE: &str =
-    "heaps 1 near 2 far 3 live 4 dead 5 unused 6 far_bytes 7 accesses 8000 misses_per_thousand 1 fetches 9 evictions 10 spared 11 moves 12 rounds 13 faults 14 worst 15 worst_faults 16";
+    "heaps 1 near 2 far 3 live 4 dead 5 unused 6 far_bytes 7 accesses 8000 misses_per_thousand 1 fetches 3 looks 6 evictions 10 spared 11 moves 12 rounds 13 faults 14 worst 15 worst_faults 16";
 
 #[test]
 fn statistics_are_one_line(rt: HostRuntime) {

@@ -15,10 +15,11 @@
 //! `has NAME FROM COUNT FIRST STEP` | these are read
 //! `add NAME FROM COUNT FIRST STEP MORE` | an update adds MORE to each byte, which makes these
 //! `each NAME LEN` | each range of an object is written, and leaves all else of it
+//! `once FIRST COUNT` | of each of so many pointers the first byte is read once, and is 0
 //! `drop NAME` | it is dropped
 //! `look NAME LEN` | what its cell tells; 0: it has no object
 //! `round MOST LEAST` | a round of so many logs at most gives so many back
-//! `tell LOGS OBJECTS FAR FETCHES EVICTIONS SPARED FAULTS BYTES MOVES` | the statistics: BYTES are those of far objects
+//! `tell LOGS OBJECTS FAR FETCHES EVICTIONS SPARED FAULTS BYTES MOVES LOOKS` | the statistics: BYTES are those of far objects
 //! `set COUNT` | objects are made of many lengths, whose bytes are all their name
 //! `wrong COUNT MOST` | of these all bytes of so many at most are inverted, and no other is wrong
 
@@ -29,7 +30,7 @@ use crate::tests::devices::Flaw;
 pub(super) struct Act {
     /// The first letter of its word, or a space.
     pub(super) verb: u8,
-    numbers: [u64; 10],
+    numbers: [u64; 11],
     // Which number is being read, from one on.
     at: usize,
 }
@@ -76,14 +77,14 @@ pub(super) fn byte_of(number: u64) -> u8 {
 }
 
 /// The place of the refusal among the numbers.
-const REFUSAL: usize = 9;
+const REFUSAL: usize = 10;
 
 impl Act {
     /// One of which nothing is read.
     pub(super) fn new() -> Act {
         Act {
             verb: b' ',
-            numbers: [0; 10],
+            numbers: [0; 11],
             at: 0,
         }
     }

@@ -16,7 +16,7 @@ fn is_so<D: Device + Drop>(heap: &mut PrivateHeap<D>) -> Result<bool, Refused> {
     }
     let mut out = [0; 5];
     heap.read(pointer, 0, &mut out)?;
-    let came_back = out == *b"Jello" && heap.statistics().fetches == 1;
+    let came_back = out == *b"Jello" && heap.statistics().looks == 1;
     let mut last = [0; 1];
     heap.update(pointer, 4, &mut last, |bytes: &mut [u8]| bytes.fill(b'y'))?;
     heap.read(pointer, 0, &mut out)?;

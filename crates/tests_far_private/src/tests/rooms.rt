@@ -67,14 +67,29 @@ const BY_TURNS: &str = "fill 0 0 4088 k; fill 1 0 4088 k; fill 2 0 4088 k; fill 
     fill 4 0 4088 k; fill 5 0 4088 k; fill 6 0 4088 k; fill 7 0 4088 k; \
     has 7 0 4088 k; has 6 0 4088 k; has 5 0 4088 k; has 4 0 4088 k; has 4 0 4088 k; has 5 0 4088 k; has 6 0 4088 k; has 7 0 4088 k;";
 
-// An object of 8 bytes leaves, and comes back by the first read, whichever range that is.
+// An object of 8 bytes leaves. The first read leaves it far, whichever range that is, and the second brings it near.
 const COUNTED: &str =
     "tell 4; new 0 8; tell 4 1; many 1 4088; round 1 1; tell 4 2 1 0 1 0 0 8; look 0 8; has 0 8 1 !8; tell 4 2 1 0 1 0 0 8; \
-    has 0 7 1 0; tell 4 2 0 1 1;";
+    has 0 7 1 0; tell 4 2 1 0 1 0 0 8 0 1; has 0 0 1 0; tell 4 2 0 1 1 0 0 0 0 1;";
 
 // It is read again, or dropped.
 const READ_AGAIN: &str =
-    "has 0 0 8 0; has 0 0 8 0; tell 4 2 0 1 1; drop 0; look 0; tell 4 1 0 1 1;";
+    "has 0 0 8 0; has 0 0 8 0; tell 4 2 0 1 1 0 0 0 0 1; drop 0; look 0; tell 4 1 0 1 1 0 0 0 0 1;";
+
+// The second of two reads brings it each time that it left.
+const TWICE_EACH_TIME: &str =
+    "many 1 4088; round 64 1; tell 4 3 2 1 3 1 0 4096 0 1; has 0 0 8 0; tell 4 3 2 1 3 1 0 4096 0 2; has 0 0 8 0; tell 4 3 1 2 3 1 0 4088 0 2;";
+
+// Of 300 far objects each is read once, and stays far. So many looks aren't remembered: the last object comes near at the next, the first one at the second.
+const MANY_LOOKS: &str =
+    "new 0 8; many 298 8; new 1 8; many 1 4088; round 64 1; tell 8 301 300 0 300 0 0 2400; once 0 300; tell 8 301 300 0 300 0 0 2400 0 300; \
+    has 1 0 8 0; tell 8 301 299 1 300 0 0 2392 0 300; has 0 0 8 0; tell 8 301 299 1 300 0 0 2392 0 301; \
+    has 0 0 8 0; tell 8 301 298 2 300 0 0 2384 0 301;";
+
+// Where all logs are full of what the device doesn't take, a far object is read all the same, and not written.
+const FULL_READS: &str =
+    "new 0 200; fill 0 0 200 5; many 3 4088; round 2 0; until 70 150 100 !2; look 0 200; has 0 0 200 5; has 0 0 200 5; has 0 0 200 5; \
+    fill 0 0 8 9 !2; add 0 0 8 9 0 1 !2; has 0 0 200 5; has 0 0 200 5;";
 
 // One that was read near moves, and doesn't leave.
 const MOVED: &str =
@@ -84,7 +99,7 @@ const MOVED: &str =
 const KEPT_IN_USE: &str = "new 0 8; has 0 0 8; has 0 0 8; many 3 4088; tell 4 4 1 0 1 0 0 4088 1;";
 
 // It leaves again, with one that the device doesn't have yet, and isn't written, since the device has its bytes.
-const SPARED: &str = "many 1 4088; round 64 1; tell 4 3 2 1 3 1 0 4096;";
+const SPARED: &str = "many 1 4088; round 64 1; tell 4 3 2 1 3 1 0 4096 0 1;";
 
 // An object of bytes that nobody used since leaves, and doesn't move.
 const UNUSED: &str = "bytes 0 8 9; many 1 4088; round 1 1; tell 4 2 1 0 1 0 0 8;";
@@ -109,6 +124,9 @@ const PLAYS: &[Play] = &[
     Play { name: "a_second_round_brings_room", flaw: Flaw::Dislikes, at: 100, parts: &[TWICE], ..FOUR_LOGS },
     Play { name: "pointers_of_each_part_have_room", parts: &[EACH_OWNER, BY_TURNS, BY_TURNS], ..FOUR_LOGS },
     Play { name: "a_fetch_is_counted_once", parts: &[COUNTED, READ_AGAIN], ..FOUR_LOGS },
+    Play { name: "a_second_read_brings_it_each_time", parts: &[COUNTED, TWICE_EACH_TIME], ..FOUR_LOGS },
+    Play { name: "looks_are_forgotten", logs: 8, parts: &[MANY_LOOKS], ..FOUR_LOGS },
+    Play { name: "a_full_heap_is_read", flaw: Flaw::Dislikes, at: 100, parts: &[FULL_READS], ..FOUR_LOGS },
     Play { name: "a_write_that_is_spared_is_counted", parts: &[COUNTED, SPARED], ..FOUR_LOGS },
     Play { name: "a_used_object_moves", parts: &[MOVED], ..FOUR_LOGS },
     Play { name: "a_call_moves_what_is_used", parts: &[KEPT_IN_USE], ..FOUR_LOGS },

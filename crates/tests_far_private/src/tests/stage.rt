@@ -18,6 +18,9 @@ const OTHER: u8 = 0xee;
 /// The name of objects that have none.
 const NO_NAME: u64 = u64::MAX;
 
+/// What a pointer's number is more than the pointer.
+const POINTER: u64 = 1000;
+
 /// A heap, and the pointers of the objects that the test has named.
 #[derive(Drop)]
 struct Stage<D: Device + Drop> {
@@ -31,7 +34,7 @@ impl<D: Device + Drop> Stage<D> {
     fn pointer(&self, name: u64) -> u16 {
         match self.named.get(name as usize) {
             Some(pointer) => *pointer,
-            None => (name.wrapping_sub(1000) % 65536) as u16,
+            None => (name.wrapping_sub(POINTER) % 65536) as u16,
         }
     }
 
@@ -191,25 +194,42 @@ impl<D: Device + Drop> Stage<D> {
         true
     }
 
-    // Whether an object of the set has all bytes the same, and no more.
-    fn is_all(&mut self, name: u64, byte: u64) -> bool {
-        let all = whole(name, byte);
+    // The byte that all bytes of an object of the set are, as one read has it; and it has no more.
+    fn byte_in_all(&mut self, name: u64) -> Option<u8> {
+        let all = whole(name, name);
+        let mut room = [OTHER; ROOM];
+        let bytes = room.get_mut(..all.count as usize)?;
+        let said = self.ask(b'h', all, bytes);
+        let byte = *bytes.first()?;
         let behind = row(name, all.count, 1, 0);
-        self.has(b'h', all) && self.does_range(b'h', behind, 8)
+        if said == 0 && is_row(bytes, byte, 0) && self.does_range(b'h', behind, 8) {
+            return Some(byte);
+        }
+        None
     }
 
     // `wrong`.
     fn has_wrong(&mut self, count: u64, most: u64) -> bool {
         let mut wrong: u64 = 0;
         for name in 0..count {
-            if !self.is_all(name, name) {
-                if !self.is_all(name, u64::from(!byte_of(name))) {
-                    return false;
-                }
-                wrong = wrong.saturating_add(1);
+            let byte = byte_of(name);
+            match self.byte_in_all(name) {
+                Some(found) if found == byte => {}
+                Some(found) if found == !byte => wrong = wrong.saturating_add(1),
+                _ => return false,
             }
         }
         wrong <= most
+    }
+
+    // `once`.
+    fn reads_each(&mut self, first: u64, count: u64) -> bool {
+        for pointer in first..first.saturating_add(count) {
+            if !self.has(b'h', row(pointer.saturating_add(POINTER), 0, 1, 0)) {
+                return false;
+            }
+        }
+        true
     }
 
     // Acts of several calls.
@@ -218,6 +238,7 @@ impl<D: Device + Drop> Stage<D> {
         match act.verb {
             b'e' => self.writes_each(first, second),
             b's' => self.makes_set(first),
+            b'o' => self.reads_each(first, second),
             _ => self.has_wrong(first, second),
         }
     }
@@ -260,6 +281,7 @@ impl<D: Device + Drop> Stage<D> {
             && told.device_faults == act.number(6)
             && told.far_bytes == act.number(7)
             && told.moves == act.number(8)
+            && told.looks == act.number(9)
     }
 
     // Whether an act comes out as it should.
@@ -267,7 +289,7 @@ impl<D: Device + Drop> Stage<D> {
         match act.verb {
             b'f' | b'h' | b'a' => self.does_range(act.verb, act.range(), act.refusal()),
             b'n' | b'b' | b'm' | b'p' | b'u' => self.makes(act),
-            b'e' | b's' | b'w' => self.does_several(act),
+            b'e' | b's' | b'w' | b'o' => self.does_several(act),
             b'd' => self.does_drop(act),
             b'l' => self.does_look(act),
             b'r' => self.does_round(act),

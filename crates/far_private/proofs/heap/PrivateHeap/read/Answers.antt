@@ -1,10 +1,9 @@
 use Rattle.far_private.proofs.Placing.{keeps_kept}
-use Rattle.std.proofs.Common.{length}
+use Rattle.std.proofs.Common.{◌∙◌, length, sym}
 use Rattle.far_private.specs.Objects.{objects_in, state_in}
-use Rattle.far_private.proofs.HeapTies.{bars_so, done_so, read_so, stays_so, why_so}
+use Rattle.far_private.proofs.HeapTies.{bars_so, done_so, read_so, refusal_so, stays_so, why_so}
 use Rattle.far_private.proofs.Lawful.{ends}
 use Rattle.far_private.proofs.NotGiven.{given_so, on_err, stays_away}
-use Rattle.far_private.proofs.RoomTold.{room_so}
 use Rattle.far_private.proofs.heap.PrivateHeap.read.Goals as goal
 
 pub returns-clause-same : goal.returns-clause-same
@@ -26,8 +25,9 @@ pub returns-clause-why : goal.returns-clause-why
 returns-clause-why g c = why_so (objects_in c.self.inside.evac) c.args.self.now c.self.view_is (ends (state_in c.self.inside.evac) c.self.inside.evac.book.near.core.law c.self.invariant.settled)
     c.args.pointer c.args.from (length c.args.out.now) c.read_range.result c.read_range.ensures.barred c.read_range.ensures.outside
 
-pub returns-clause-room : goal.returns-clause-room
-returns-clause-room g c = room_so g.D.Device.writes (state_in c.self.inside.evac) c.args.self.now c.self.view_is (ends (state_in c.self.inside.evac) c.self.inside.evac.book.near.core.law c.self.invariant.settled) c.read_range.result c.read_range.ensures.stuck
+pub returns-clause-fault : goal.returns-clause-fault
+returns-clause-fault g c = λ e. c.read_range.ensures.fault
+    (sym (refusal_so (objects_in c.self.inside.evac) c.args.self.now c.self.view_is (ends (state_in c.self.inside.evac) c.self.inside.evac.book.near.core.law c.self.invariant.settled) c.args.pointer c.args.from (length c.args.out.now)) ∙ e)
 
 pub returns-clause-given : goal.returns-clause-given
 returns-clause-given g c = given_so g.D.Device.reads (objects_in c.self.inside.evac) c.args.self.now c.self.view_is (ends (state_in c.self.inside.evac) c.self.inside.evac.book.near.core.law c.self.invariant.settled)

@@ -2,7 +2,7 @@ use Rattle.std.proofs.Common.{◌≡◌, ◌+◌, ◌≤◌, arith, length, subs
 use Rattle.std.specs.Prelude.{OnOk}
 use Rattle.far_private.specs.Objects.{IsRead, len_in, objects_of, state_in}
 use Rattle.far_private.proofs.Ranging.{inside_on, read_on}
-use Rattle.far_private.proofs.ranges.read_reached.Goals as goal
+use Rattle.far_private.proofs.ranges.read_brought.Goals as goal
 
 pub read_again-requires-clause-inside : goal.read_again-requires-clause-inside
 read_again-requires-clause-inside g c =
