@@ -2,6 +2,7 @@ pub mod Lookups
 pub mod Encodings
 pub mod Changes
 pub mod Outcomes
+pub mod Rewriting
 pub mod Told
 pub mod Growth
 pub mod Causes

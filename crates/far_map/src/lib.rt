@@ -11,6 +11,7 @@ mod lookup;
 mod map;
 mod near;
 mod parts;
+mod puts;
 mod steps;
 mod whole;
 

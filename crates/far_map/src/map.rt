@@ -8,12 +8,13 @@ ghost use Rattle.far_map.specs.Causes.{IsWhyPut, IsWhyRead, is_entry};
 ghost use Rattle.far_map.specs.Finding.{AreEntries};
 
 use crate::buffer::Buffer;
-use crate::entry::{fits, join_entry, value_of, value_to};
+use crate::entry::{fits, value_of, value_to};
 use crate::grow::make_roomy;
 use crate::lookup::find;
 use crate::near::Near;
 use crate::parts::Parts;
-use crate::steps::{add, replace, take_out};
+use crate::puts::{put_again, put_new};
+use crate::steps::take_out;
 use far_index::{Index, seeded, slots_for, tag_of_key};
 use far_objects::Objects;
 use far_word::Refused;
@@ -136,10 +137,10 @@ impl<O: Objects + Drop> Map<O> {
         Ok(Some(look(value_of(self.parts.buffer.part(at.len)))))
     }
 
-    /// Gives a key a value. Whether the key is new.
+    /// Gives a key a value. Whether the key is new. A value as long as the key's old one is written over it.
     ///
     /// Refused: [`Refused::Length`] exactly where key and value are longer than 4,086 bytes together; [`Refused::Memory`] where the index
-    /// can't grow; or as the worker refuses to read or to make an object. Then the map is as it was.
+    /// can't grow; or as the worker refuses to read, to write or to make an object. Then the map is as it was.
     pub fn insert(&mut self, key: &[u8], value: &[u8]) -> Result<bool, Refused>
         ensures honest { self.new.honest ≡ self.old.honest }
         ensures made { self.old.honest ≡ true → OnOk result (self.new.entries ≡ map.insert self.old.entries key.now value.now) }
@@ -156,18 +157,15 @@ impl<O: Objects + Drop> Map<O> {
             Ok(found) => found,
             Err(why) => return Err(why),
         };
-        let Ok(bytes) = join_entry(self.parts.alloc, key, value) else {
-            return Err(Refused::Memory);
-        };
         match found {
-            None => match add(&mut self.parts, tag, bytes.as_slice(), key, value) {
+            None => match put_new(&mut self.parts, tag, key, value) {
                 Ok(()) => {
                     make_roomy(self.parts.alloc, &mut self.parts.near);
                     Ok(true)
                 }
                 Err(why) => Err(why),
             },
-            Some(at) => match replace(&mut self.parts, at, tag, bytes.as_slice(), key, value) {
+            Some(at) => match put_again(&mut self.parts, at, tag, key, value) {
                 Ok(()) => Ok(false),
                 Err(why) => Err(why),
             },
