@@ -4,7 +4,7 @@ ghost use Rattle.std.specs.Prelude.{◌≡◌, ◌<◌, ℕ, true, Some, IfOk, I
 ghost use Rattle.std.specs.Bool.{Decides};
 ghost use Rattle.std.specs.FinSet as set;
 ghost use Rattle.far_objects.specs.Far.{Far};
-ghost use Rattle.far_index.specs.Slots.{IsTag};
+ghost use Rattle.far_index.specs.Slots.{IsTag, slot_at};
 ghost use Rattle.far_index.specs.Tags.{tag_of};
 ghost use Rattle.far_seen.specs.Causes.{IsWhyUnread};
 ghost use Rattle.far_seen.specs.Parts.{Has, Sound, lines_of, plain};
@@ -90,6 +90,7 @@ fn twice(buckets: usize) -> usize
 pub fn make_roomy(alloc: Global, near: &mut Near)
     ensures sound { (f : Far) → Sound (plain f near.old) → Sound (plain f near.new) }
     ensures same { (f : Far) → Sound (plain f near.old) → lines_of (plain f near.new) ≡ lines_of (plain f near.old) }
+    ensures kept { (j t h : ℕ) → slot_at near.old.slots j ≡ Slot.Full t h → (i : ℕ) × (slot_at near.new.slots i ≡ Slot.Full t h) }
 {
     let buckets = near.buckets;
     if buckets == 0 || near.count < buckets - buckets / 8 {
