@@ -1,6 +1,7 @@
 //! Lines are counted.
 
 ghost use Rattle.std.specs.Prelude.{◌≡◌, ◌+◌, ◌<◌, ◌≤◌, ◌++◌, ◌⊎◌, [], true, false, IfErr, IfOk, IfSome, OnOk, OnErr, length};
+ghost use Rattle.memchr.specs.Find.{IsFirstByte, is_byte};
 ghost use Rattle.far_seen.specs.Tallied.{counted, total};
 ghost use Rattle.far_firsts.specs.Lines.{IsPlain, key_of, lines_of};
 ghost use Rattle.far_firsts.specs.Causes.{IsWhyNext, Refuses};
@@ -14,7 +15,7 @@ use crate::write::read_some;
 use far_objects::Objects;
 use far_seen::Tally;
 use far_word::Refused;
-use memchr::memchr;
+use memchr::memchr2;
 use std::io::Read;
 
 /// Counts a line.
@@ -61,6 +62,14 @@ fn count_end<O: Objects + Drop>(
     }
 }
 
+/// The place of the first end. It isn't found by `memchr`, so that this has one caller, and is made in its place there: in what prints lines
+/// at once.
+fn next_end(end: u8, bytes: &[u8]) -> Option<usize>
+    ensures { IsFirstByte (is_byte end) bytes.now result }
+{
+    memchr2(end, end, bytes)
+}
+
 /// Counts the lines that end in these bytes, and keeps what comes after the last end.
 fn count_bytes<O: Objects + Drop>(
     tally: &mut Tally<O>,
@@ -77,7 +86,7 @@ fn count_bytes<O: Objects + Drop>(
     ensures stopped { IfErr result (λ why. Stopped longest (Refuses O.unmade O.unreached tally.old.honest) false end bytes.now (state_of midst.old.part.items midst.old.count) midst.new.count why [] []) }
 {
     let mut rest = bytes;
-    while let Some(i) = memchr(end, rest) {
+    while let Some(i) = next_end(end, rest) {
         match count_end(tally, end, longest, &rest[..i], midst) {
             Ok(()) => {}
             Err(why) => return Err(why),

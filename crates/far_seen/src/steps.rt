@@ -87,6 +87,7 @@ fn twice(buckets: usize) -> usize
 }
 
 /// Makes the index anew where seven eighths of its homes are taken: twice as large. If there is no memory for it, the old one goes on.
+#[inline(always)]
 pub fn make_roomy(alloc: Global, near: &mut Near)
     ensures sound { (f : Far) → Sound (plain f near.old) → Sound (plain f near.new) }
     ensures same { (f : Far) → Sound (plain f near.old) → lines_of (plain f near.new) ≡ lines_of (plain f near.old) }
@@ -96,6 +97,19 @@ pub fn make_roomy(alloc: Global, near: &mut Near)
     if buckets == 0 || near.count < buckets - buckets / 8 {
         return;
     }
+    make_anew(alloc, near);
+}
+
+/// The same, where they are. Seldom called, and so apart from what is called for each line.
+#[cold]
+#[inline(never)]
+fn make_anew(alloc: Global, near: &mut Near)
+    requires { 0 < near.old.buckets }
+    ensures sound { (f : Far) → Sound (plain f near.old) → Sound (plain f near.new) }
+    ensures same { (f : Far) → Sound (plain f near.old) → lines_of (plain f near.new) ≡ lines_of (plain f near.old) }
+    ensures kept { (j t h : ℕ) → slot_at near.old.slots j ≡ Slot.Full t h → (i : ℕ) × (slot_at near.new.slots i ≡ Slot.Full t h) }
+{
+    let buckets = near.buckets;
     let more = twice(buckets);
     let Ok(slots) = grown(alloc, &near.slots, more) else {
         return;
