@@ -1,6 +1,7 @@
 //! What the memory is given to, and the far file.
 
 ghost use Rattle.std.specs.Prelude.{◌≤◌, ◌+◌};
+ghost use Rattle.far_uniq.specs.declared.room.TheConstants.{COUNT, LEAST, LINE};
 
 use crate::asked::Asked;
 use crate::told::Fault;
@@ -24,12 +25,11 @@ const LOGS: u64 = 12;
 /// How many objects a heap has at most.
 const HEAP: u64 = 2_048;
 
-/// The least memory where a line takes so many bytes: for one heap, and the line that is read.
-fn least(line: u64) -> u64
-    requires { line ≤ LINE + COUNT }
-{
-    (BESIDE + HEAP * (line + LOGS)) * 32 / 31 + 1
-}
+/// The least memory: for one heap, and the line that is read.
+const LEAST: u64 = (BESIDE + HEAP * (LINE + LOGS)) * 32 / 31 + 1;
+
+/// The same where lines are counted.
+const LEAST_COUNTED: u64 = (BESIDE + HEAP * (LINE + COUNT + LOGS)) * 32 / 31 + 1;
 
 #[derive(Drop)]
 pub struct Room {
@@ -43,8 +43,18 @@ pub struct Room {
 /// A 32nd of the memory is for the line that is read, and what is written of it. A quarter of the rest is for lines that lie near, the
 /// rest is for what each line takes.
 pub fn room_in(near: u64, counts: bool) -> Result<Room, Fault> {
-    let line = if counts { LINE + COUNT } else { LINE };
-    let least = least(line);
+    if counts {
+        room_for(near, LINE + COUNT, LEAST_COUNTED)
+    } else {
+        room_for(near, LINE, LEAST)
+    }
+}
+
+// The same, by how much a line takes, and the least memory then.
+fn room_for(near: u64, line: u64, least: u64) -> Result<Room, Fault>
+    requires line { line ≤ LINE + COUNT }
+    requires least { LEAST ≤ least }
+{
     if near < least {
         return Err(Fault::Small(least));
     }
