@@ -1,5 +1,5 @@
 #!/usr/bin/env python3
-"""Runs far_uniq beside a model of it: its options; where memory is too little, how much it takes; files that can't be read; an output and a far file whose disk is
+"""Runs far_uniq beside a model of it: its options, and counts; where memory is too little, how much it takes; files that can't be read; an output and a far file whose disk is
 full; a reader that is gone; a line that comes alone; and each growth of memory refused in turn. A run that fails has printed how the right output begins, and says
 in one line what was wrong; a reader that is gone is told nothing. No run leaves a file.
 
@@ -24,7 +24,7 @@ USAGE = "usage: far_uniq [-m SIZE] [-d FOLDER] [-c] [-s] [-z] [FILE..]\n"
 TEXT = b"b\na\nb\n\nc\r\n\xff\na\n\nlast"
 BAD_WORDS = (["-x"], ["-m"], ["-m", ""], ["-m", "x"], ["-m", "K"], ["-m", "1K2"], ["-m", "-1"], ["-m", "99999999999999999999"], ["-d"], ["-z", "-q", "file"])
 # What a growth that was refused is told as.
-REFUSED = re.compile(r"far_uniq: (no memory; nothing was printed|standard input: line \d+: no memory; -m has room for .*; \d+ lines were printed|no far file: .*; nothing was printed)\n")
+REFUSED = re.compile(r"far_uniq: (no memory; nothing was printed|standard input: line \d+: no memory; -m has room for .*; \d+ lines were printed|no far file: .*; nothing was printed|no memory, after \d+ lines were printed with their counts)\n")
 wrong = []
 
 
@@ -34,6 +34,17 @@ def firsts(text: bytes, end: bytes = b"\n") -> bytes:
     if lines[-1] == b"":
         lines.pop()
     return b"".join(line + end for line in dict.fromkeys(lines))
+
+
+def counts(text: bytes, end: bytes = b"\n") -> bytes:
+    """What is to be printed with -c."""
+    lines = text.split(end)
+    if lines[-1] == b"":
+        lines.pop()
+    often: dict = {}
+    for line in lines:
+        often[line] = often.get(line, 0) + 1
+    return b"".join(b"%7d %s%s" % (count, line, end) for line, count in often.items())
 
 
 def limited(size: int):
@@ -71,7 +82,11 @@ def options(program: str) -> None:
         ([], TEXT, firsts(TEXT), ""),
         (["-m", "5M", "-d", "."], TEXT, firsts(TEXT), ""),
         (["-z"], b"a\nb\0a\nb\0\0\0c", firsts(b"a\nb\0a\nb\0\0\0c", b"\0"), ""),
-        (["-c"], TEXT, firsts(TEXT), "far_uniq: 9 lines came, 6 were new\n"),
+        (["-c"], TEXT, counts(TEXT), ""),
+        (["-c"], b"", b"", ""),
+        (["-c", "-z"], b"a\nb\0a\nb\0\0\0c", counts(b"a\nb\0a\nb\0\0\0c", b"\0"), ""),
+        (["-c", "one", "-", "two"], b"q\na", b"      4 a\n      2 b\n      1 q\n      1 c\n", ""),
+        (["-c"], b"x\n" * 12_345_678, b"12345678 x\n", ""),
         (["one", "two"], b"", b"a\nb\nc\n", ""),
         (["one", "-", "two"], b"q\na", b"a\nb\nq\nc\n", ""),
         (["--", "-odd"], b"", b"x\n", ""),
@@ -87,13 +102,22 @@ def options(program: str) -> None:
     text = b"".join(b"%d%s\n" % (draw.randrange(3000), b"x" * draw.randrange(300)) for _ in range(30_000))
     came = run(program, "-m", "8M", text=text)
     expect("lines by chance", came == (0, firsts(text), ""), came)
+    came = run(program, "-m", "8M", "-c", text=text)
+    expect("lines by chance, counted", came == (0, counts(text), ""), came)
+    sorted_counts = subprocess.run("LC_ALL=C sort | LC_ALL=C uniq -c", shell=True, input=text, stdout=subprocess.PIPE, check=True).stdout
+    expect("lines by chance, beside sort | uniq -c", sorted(came[1].splitlines()) == sorted(sorted_counts.splitlines()), came)
     kinds = [bytes([97 + kind % 2]) * draw.randrange(30_000) + b"%d" % (kind % 9) for kind in range(100)]
     text = b"\n".join(draw.choice(kinds) for _ in range(1_000))
     came = run(program, "-m", "8M", text=text)
     expect("long lines by chance", came == (0, firsts(text), ""), came)
+    came = run(program, "-m", "8M", "-c", text=text)
+    expect("long lines by chance, counted", came == (0, counts(text), ""), came)
     came = run(program, "-s", text=TEXT)
     told = re.fullmatch(r"far_uniq: 9 lines came, 6 were new\nfar_uniq: far side: heaps \d+ near 6 far 0 .*\n", came[2])
     expect("what the far side did", came[:2] == (0, firsts(TEXT)) and told is not None, came)
+    came = run(program, "-s", "-c", text=TEXT)
+    told = re.fullmatch(r"far_uniq: 9 lines came, 6 were new\nfar_uniq: far side: heaps \d+ near 6 far 0 .*\n", came[2])
+    expect("what the far side did for counts", came[:2] == (0, counts(TEXT)) and told is not None, came)
 
 
 def be_interrupted() -> None:
@@ -125,6 +149,36 @@ def most_of(program: str, *words: str, text: bytes, wanted: int) -> tuple:
     said = ran.stderr.read().decode()
     printed += ran.stdout.read()
     return (ran.wait(LONGEST), printed, said), most
+
+
+def counted_memory(program: str) -> None:
+    """The same with -c: what is near until the end of the input."""
+    came = run(program, "-c", "-m", "1M", text=TEXT)
+    told = re.fullmatch(r"far_uniq: too little memory: -m (\d+) would do; nothing was printed\n", came[2])
+    expect("1M of memory for counts", came[:2] == (1, b"") and told is not None, came)
+    if told is None:
+        return
+    least = int(told[1])
+    came = run(program, "-c", "-m", str(least - 1), text=TEXT)
+    expect("a byte less than the least memory for counts", came == (1, b"", told[0]), came)
+    for size, lines, long in ((least, 2_048, 40), (8 << 20, 80_000, 25), (8 << 20, 200, 100_000), (8 << 20, 4_000, 4_100)):
+        text = b"".join(b"%06d a line that is one of many%s\n" % (line, b"." * (long - 25)) for line in range(lines)) * 2
+        ran = begun(program, "-c", "-m", str(size))
+        ran.stdin.write(text)
+        ran.stdin.close()
+        # (more is to be written than a pipe holds, so it waits)
+        printed = os.read(ran.stdout.fileno(), 1_000)
+        with open(f"/proc/{ran.pid}/status", encoding="ascii") as file:
+            most = int(re.search(r"VmHWM:\s+(\d+) kB", file.read())[1]) * 1024
+        printed += ran.stdout.read()
+        came = (ran.wait(LONGEST), printed, ran.stderr.read().decode())
+        expect(f"{lines} lines counted in {size} bytes", came == (0, counts(text), ""), came)
+        if most > size * 1.15:
+            wrong.append(f"fail_uniq: -c -m {size}: took {most} bytes")
+    text = b"".join(b"%06d\n" % line for line in range(3_000))
+    came = run(program, "-c", "-m", str(least), text=text)
+    told = r"far_uniq: standard input: line 2049 would be new beyond 2048, all that -m has room for with -c; nothing was printed\n"
+    expect("more lines than there is room for with counts", came[:2] == (1, b"") and re.fullmatch(told, came[2]) is not None, came)
 
 
 def memory(program: str) -> None:
@@ -182,6 +236,34 @@ def faults(program: str, library: str) -> None:
     expect("a far file that lies", came[0] == 1 and firsts(text).startswith(came[1]) and told is not None, came)
 
 
+def counted_faults(program: str, library: str) -> None:
+    """The same with -c: nothing is printed before the end of the input, and after that how the right output begins."""
+    for words, told in (
+        (["one", "none"], r"far_uniq: none: can't be read at line 4: No such file .*; 0 lines were printed\n"),
+        (["folder"], r"far_uniq: folder: can't be read at line 1: Is a directory .*; 0 lines were printed\n"),
+    ):
+        came = run(program, "-c", *words, text=TEXT)
+        expect(f"words -c {words}", came[:2] == (1, b"") and re.fullmatch(told, came[2]) is not None, came)
+    came = run(program, "-c", "-m", "8M", text=b"a\nb\n" + b"x" * 131_073 + b"\nc\n")
+    told = r"far_uniq: standard input: line 3 has more than 131072 bytes, a 64th of -m; 0 lines were printed\n"
+    expect("a longer line, counted", came[:2] == (1, b"") and re.fullmatch(told, came[2]) is not None, came)
+    with open("/dev/full", "wb") as full:
+        came = run(program, "-c", text=TEXT, output=full)
+    told = r"far_uniq: can't write at line \d+: No space left .*; what was written is how the right output begins\n"
+    expect("an output of counts that is full", came[0] == 1 and re.fullmatch(told, came[2]) is not None, came)
+    text = b"".join(b"%06d %s\n" % (line, b"x" * 400) for line in range(20_000))
+    came = run(program, "-c", "-m", "4M", text=text, limit=1 << 20)
+    told = r"far_uniq: standard input: line \d+: no room, as the far file takes nothing more: is its disk full\?; 0 lines were printed\n"
+    expect("a far file of counts that is full", came[:2] == (1, b"") and re.fullmatch(told, came[2]) is not None, came)
+    text = text[: 3 << 20] + b"\n"
+    lost = re.compile(r"far_uniq: .*, after (\d+) lines were printed with their counts\n|far_uniq: standard input: line \d+: .*; 0 lines were printed\n")
+    for variable, wanted in ((("FAIL_CALL", "7500"), None), (("FAIL_CALL", "9000"), None), (("FAIL_FLIP", "3"), "gave other bytes")):
+        came = run(program, "-c", "-m", "4M", text=text, LD_PRELOAD=library, **{variable[0]: variable[1]})
+        told = lost.fullmatch(came[2])
+        right = counts(text).startswith(came[1]) and (came == (0, counts(text), "") or (came[0] == 1 and told is not None and int(told[1] or 0) == came[1].count(b"\n")))
+        expect(f"a far file of counts with {variable}", right and (wanted is None or wanted in came[2]), came)
+
+
 def pipes(program: str) -> None:
     """A reader that is gone; lines that come alone; a run that is interrupted, and what it says each second."""
     ran = begun(program)
@@ -193,6 +275,18 @@ def pipes(program: str) -> None:
         pass
     said = ran.stderr.read()
     expect("a reader that is gone", ran.wait(LONGEST) == 1 and said == b"", (ran.returncode, b"", said.decode()))
+    ran = begun(program, "-c")
+    ran.stdout.close()
+    ran.stdin.write(TEXT)
+    ran.stdin.close()
+    said = ran.stderr.read()
+    expect("a reader of counts that is gone", ran.wait(LONGEST) == 1 and said == b"", (ran.returncode, b"", said.decode()))
+    ran = begun(program, "-c")
+    ran.stdin.write(b"one\ntwo\n")
+    early, _, _ = select.select([ran.stdout], [], [], 1)
+    ran.stdin.close()
+    printed = ran.stdout.read()
+    expect("counts before the end", not early and printed == b"      1 one\n      1 two\n" and ran.wait(LONGEST) == 0, (ran.returncode, printed, ""))
     ran = begun(program, "-s")
     for line in (b"one\n", b"two\n"):
         ran.stdin.write(line)
@@ -210,18 +304,19 @@ def pipes(program: str) -> None:
 def growths(program: str, library: str) -> None:
     """Each growth refused in turn: the run is whole, or says that there was no memory."""
     text = b"".join(b"%d\n" % (line % 70) for line in range(200)) + b"last"
-    run(program, "-m", "4M", text=text, LD_PRELOAD=library, COUNT_ALLOC="count")
-    with open("count", encoding="ascii") as file:
-        asked = int(file.read())
-    endings = set()
-    for nth in range(1, asked + 1):
-        came = run(program, "-m", "4M", text=text, LD_PRELOAD=library, FAIL_ALLOC=str(nth))
-        whole = came == (0, firsts(text), "")
-        refused = came[0] == 1 and firsts(text).startswith(came[1]) and REFUSED.fullmatch(came[2]) is not None
-        expect(f"growth {nth} of {asked}", whole or refused, came)
-        endings.add(whole)
-    if not {False} <= endings:
-        wrong.append(f"fail_uniq: of {asked} growths none was refused")
+    for words, right in (((), firsts(text)), (("-c",), counts(text))):
+        run(program, *words, "-m", "4M", text=text, LD_PRELOAD=library, COUNT_ALLOC="count")
+        with open("count", encoding="ascii") as file:
+            asked = int(file.read())
+        endings = set()
+        for nth in range(1, asked + 1):
+            came = run(program, *words, "-m", "4M", text=text, LD_PRELOAD=library, FAIL_ALLOC=str(nth))
+            whole = came == (0, right, "")
+            refused = came[0] == 1 and right.startswith(came[1]) and REFUSED.fullmatch(came[2]) is not None
+            expect(f"growth {nth} of {asked} {words}", whole or refused, came)
+            endings.add(whole)
+        if not {False} <= endings:
+            wrong.append(f"fail_uniq: of {asked} growths none was refused {words}")
 
 
 def main() -> int:
@@ -234,7 +329,9 @@ def main() -> int:
             subprocess.run(["cc", "-O2", "-shared", "-fPIC", "-o", libraries[name], f"{HERE}/{name}.c", "-ldl"], check=True)
         options(program)
         memory(program)
+        counted_memory(program)
         faults(program, libraries["fail_file"])
+        counted_faults(program, libraries["fail_file"])
         pipes(program)
         growths(program, libraries["fail_malloc"])
         left = [name for name in os.listdir(".") if name.startswith("far_uniq.")]

@@ -6,3 +6,6 @@ pub mod Runs
 pub mod Outputs
 pub mod Halts
 pub mod OneOfEach
+pub mod Tallies
+pub mod Tallying
+pub mod Showing

@@ -53,7 +53,7 @@ false_true b e f = cc
 end_is_not : (end : ℕ) (xs : List ℕ) → IsPlain end (end ∷ xs) → ⊥
 end_is_not end xs p = false_true (end == end) p.0 (itself end)
 
-same_key : (end : ℕ) (l m : List ℕ) → IsPlain end l → IsPlain end m → key_of end l ≡ key_of end m → l ≡ m
+pub same_key : (end : ℕ) (l m : List ℕ) → IsPlain end l → IsPlain end m → key_of end l ≡ key_of end m → l ≡ m
 same_key end [] [] p q e = refl
 same_key end [] (y ∷ ys) p q e = absurd (end_is_not end [] (subst (IsPlain end) (sym e) q))
 same_key end (x ∷ xs) [] p q e = absurd (end_is_not end [] (subst (IsPlain end) e p))

@@ -1,8 +1,10 @@
 //! What the first lines of each kind are, in other words.
 
-ghost use Rattle.std.specs.Prelude.{◌≡◌, ◌++◌, ◌∷◌, [], ℕ, List, take};
+ghost use Rattle.std.specs.Prelude.{◌≡◌, ◌+◌, ◌++◌, ◌∷◌, [], ℕ, List, false, length, map, take};
+ghost use Rattle.far_seen.specs.Tallied.{counted, total};
 ghost use Rattle.far_firsts.specs.Lines.{ArePlain, closed, lines_of, text_of};
 ghost use Rattle.far_firsts.specs.Firsts.{firsts, is_among, unless_among, NoneTwice, IsPartOf};
+ghost use Rattle.far_firsts.specs.Tallies.{how_often, tally};
 
 /// The lines of a text have no end in them; and they and their ends are the text, with an end after the last line if that has none.
 pub fn lines_are_between_ends()
@@ -22,4 +24,14 @@ pub fn firsts_are_one_of_each()
 /// What a run prints that ends early is how the right output begins.
 pub fn what_is_printed_is_a_prefix()
     ensures { (end n : ℕ) (lines : List (List ℕ)) → (rest : List ℕ) × (text_of end (firsts lines) ≡ text_of end (firsts (take n lines)) ++ rest) }
+{}
+
+/// Each line that is counted is the first of its kind, in order; they came as often as there are lines; a line that comes next is counted
+/// where it stands, or comes last; and it comes as often as in two parts of the lines.
+pub fn counts_are_of_each()
+    ensures firsts { (lines : List (List ℕ)) → map (λ p. p.0) (tally lines) ≡ firsts lines }
+    ensures total { (lines : List (List ℕ)) → total (tally lines) ≡ length lines }
+    ensures next { (lines : List (List ℕ)) (line : List ℕ) → tally (lines ++ line ∷ []) ≡ counted (tally lines) line }
+    ensures parts { (line : List ℕ) (xs ys : List (List ℕ)) → how_often line (xs ++ ys) ≡ how_often line xs + how_often line ys }
+    ensures none { (line : List ℕ) (lines : List (List ℕ)) → is_among line lines ≡ false → how_often line lines ≡ 0 }
 {}

@@ -13,7 +13,7 @@ use far_word::Refused;
 use std::alloc::AllocError;
 
 /// What stands for a line in the set.
-fn key<'a>(line: &'a [u8], none: &'a [u8]) -> &'a [u8]
+pub fn key<'a>(line: &'a [u8], none: &'a [u8]) -> &'a [u8]
     ensures { result.now ≡ key_in none.now line.now }
 {
     if line.is_empty() { none } else { line }

@@ -18,7 +18,7 @@ use std::alloc::{AllocError, Global};
 use std::io::{Read, Write};
 
 /// How many bytes are read at once. So many, those of a line and an end are written at once.
-const READ: usize = 65_536;
+pub const READ: usize = 65_536;
 
 /// Prints each line of the input the first time it comes, and an end after each; what was read at once is written before more is read.
 ///
@@ -64,7 +64,7 @@ fn no_room() -> End
     }
 }
 
-fn zeros(alloc: Global, len: usize) -> Result<Vec<u8>, AllocError>
+pub fn zeros(alloc: Global, len: usize) -> Result<Vec<u8>, AllocError>
     requires { 0 < len }
     ensures { IfOk result (λ v. 0 < length v.items) }
 {

@@ -3,3 +3,5 @@ pub mod Outcomes
 pub mod Told
 pub mod Wholes
 pub mod Longs
+pub mod Listing
+pub mod Counting

@@ -1,5 +1,5 @@
 -- A whole object is read, and a long line part by part.
-use Rattle.std.proofs.Common.{◌≡◌, ℕ, ◌+◌, ◌-◌, ◌≤◌, Bool, true, false, not, Some, Option, Result, Ok, Err, List, ◌++◌, length, take, drop, inr, refl, sym, ◌∙◌, ap, subst, arith}
+use Rattle.std.proofs.Common.{◌≡◌, ℕ, ◌+◌, ◌-◌, ◌≤◌, Bool, true, false, not, Some, Option, Result, Ok, Err, OnOk, List, ◌++◌, length, take, drop, inr, refl, sym, ◌∙◌, ap, subst, arith}
 use Rattle.std.specs.Prelude.{IfSome}
 use Rattle.std.proofs.lemmas.List.{drop_all, take_all, append-nil}
 use Rattle.std.specs.Prelude.{IfOk}
@@ -69,7 +69,7 @@ long_decides far longs k large xs line r high here whole d =
     if_decides r (xs ≡ line) ((with_longs far longs).bytes k ≡ Some line) (λ same. is ∙ ap (λ t. Some t) same) (λ there. some_bytes xs line (sym is ∙ there)) d
 
 -- ---- what was read, and the tag of what was put
-not_true : (b : Bool) → (b ≡ true → ⊥) → b ≡ false
+pub not_true : (b : Bool) → (b ≡ true → ⊥) → b ≡ false
 not_true true f = absurd (f refl)
 not_true false f = refl
 
@@ -96,3 +96,15 @@ pub long_tagged : (far : Far) (longs : List Parts) (k tag : ℕ) (seed : Default
 long_tagged far longs k tag seed large high here stored tagged o =
     let m = stored.known o (k - LONG) large here in
     (m.0, m.1, tagged m.0 o (high_bytes far longs k high ∙ ap (long_bytes far.bytes) here ∙ m.2))
+
+-- what was read is what a number stands for
+pub on_ok : {A E : Type 0} (r : Result A E) (P Q : Type 0) → (P → Q) → OnOk r P → OnOk r Q
+on_ok (Ok x) P Q f p = f p
+on_ok (Err e) P Q f p = p
+
+pub long_read : {A E : Type 0} (far : Far) (longs : List Parts) (k : ℕ) (large : Parts) (out : List ℕ) (r : Result A E) → LONG ≤ k → slice_get longs (k - LONG) ≡ Some large → Stored far longs →
+    ((xs : List ℕ) → far.honest ≡ true → Holds far large xs → OnOk r (out ≡ xs)) → far.honest ≡ true → OnOk r ((with_longs far longs).bytes k ≡ Some out)
+long_read far longs k large out r high here stored read o =
+    let m = stored.known o (k - LONG) large here in
+    let is : (with_longs far longs).bytes k ≡ Some m.0 = high_bytes far longs k high ∙ ap (long_bytes far.bytes) here ∙ m.2 in
+    on_ok r (out ≡ m.0) ((with_longs far longs).bytes k ≡ Some out) (λ e. is ∙ ap (λ t. Some t) (sym e)) (read m.0 o m.1)

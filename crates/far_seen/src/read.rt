@@ -190,3 +190,46 @@ pub fn holds<O: Objects + Drop>(
         None => Ok(false),
     }
 }
+
+/// Makes `out` a value's bytes. After an error it may have any.
+fn read_all<O: Objects + Drop>(
+    worker: &mut O,
+    large: &Large,
+    out: &mut Vec<u8>,
+) -> Result<(), Refused>
+    requires stands { Stands (O.far worker.old) large.now }
+    ensures far { O.far worker.new ≡ O.far worker.old }
+    ensures read { (xs : List ℕ) → (O.far worker.old).honest ≡ true → Holds (O.far worker.old) large.now xs → OnOk result (out.new.items ≡ xs) }
+    ensures why { IfErr result (λ why. (why ≡ Refused.Memory) ⊎ O.unreached (O.far worker.old).honest why) }
+{
+    if large.len() == 0 {
+        out.clear();
+        return Ok(());
+    }
+    read_at(worker, large, 0, large.len(), out)
+}
+
+/// Makes `out` the line that a number stands for. After an error it may have any bytes.
+pub fn read_line<O: Objects + Drop>(
+    store: &mut Store<O>,
+    number: u32,
+    out: &mut Vec<u8>,
+) -> Result<(), Refused>
+    requires stored { Stored (O.far store.old.worker) store.old.longs.items }
+    requires held { (n : ℕ) × ((with_longs (O.far store.old.worker) store.old.longs.items).sizes number ≡ Some n) }
+    ensures far { O.far store.new.worker ≡ O.far store.old.worker }
+    ensures longs { store.new.longs ≡ store.old.longs }
+    ensures read { (O.far store.old.worker).honest ≡ true → OnOk result ((with_longs (O.far store.old.worker) store.old.longs.items).bytes number ≡ Some out.new.items) }
+    ensures why { IfErr result (λ why. (why ≡ Refused.Memory) ⊎ O.unreached (O.far store.old.worker).honest why) }
+{
+    if number < LONG {
+        return match store.worker.len_of(number) {
+            Some(len) => read_whole(&mut store.worker, number, len, out),
+            None => Err(Refused::Memory),
+        };
+    }
+    match store.longs.get((number - LONG) as usize) {
+        Some(large) => read_all(&mut store.worker, large, out),
+        None => Err(Refused::Memory),
+    }
+}

@@ -36,10 +36,10 @@ impl<O: Objects + Drop> Model for Seen<O> {
 }
 
 /// How many lines an index begins with room for.
-const LINES: usize = 48;
+pub const LINES: usize = 48;
 
 /// So many homes that seven eighths of them are these.
-fn homes(lines: usize) -> usize
+pub fn homes(lines: usize) -> usize
     ensures { 0 < result }
 {
     lines.saturating_add(lines / 7).saturating_add(2)

@@ -4,7 +4,7 @@ ghost use Rattle.std.specs.Prelude.{◌≡◌, ◌<◌, ℕ, true, Some, IfOk, I
 ghost use Rattle.std.specs.Bool.{Decides};
 ghost use Rattle.std.specs.FinSet as set;
 ghost use Rattle.far_objects.specs.Far.{Far};
-ghost use Rattle.far_index.specs.Slots.{IsTag};
+ghost use Rattle.far_index.specs.Slots.{IsTag, slot_at};
 ghost use Rattle.far_index.specs.Tags.{tag_of};
 ghost use Rattle.far_seen.specs.Causes.{IsWhyUnread};
 ghost use Rattle.far_seen.specs.Parts.{Has, Sound, lines_of, plain};
@@ -87,14 +87,29 @@ fn twice(buckets: usize) -> usize
 }
 
 /// Makes the index anew where seven eighths of its homes are taken: twice as large. If there is no memory for it, the old one goes on.
+#[inline(always)]
 pub fn make_roomy(alloc: Global, near: &mut Near)
     ensures sound { (f : Far) → Sound (plain f near.old) → Sound (plain f near.new) }
     ensures same { (f : Far) → Sound (plain f near.old) → lines_of (plain f near.new) ≡ lines_of (plain f near.old) }
+    ensures kept { (j t h : ℕ) → slot_at near.old.slots j ≡ Slot.Full t h → (i : ℕ) × (slot_at near.new.slots i ≡ Slot.Full t h) }
 {
     let buckets = near.buckets;
     if buckets == 0 || near.count < buckets - buckets / 8 {
         return;
     }
+    make_anew(alloc, near);
+}
+
+/// The same, where they are. Seldom called, and so apart from what is called for each line.
+#[cold]
+#[inline(never)]
+fn make_anew(alloc: Global, near: &mut Near)
+    requires { 0 < near.old.buckets }
+    ensures sound { (f : Far) → Sound (plain f near.old) → Sound (plain f near.new) }
+    ensures same { (f : Far) → Sound (plain f near.old) → lines_of (plain f near.new) ≡ lines_of (plain f near.old) }
+    ensures kept { (j t h : ℕ) → slot_at near.old.slots j ≡ Slot.Full t h → (i : ℕ) × (slot_at near.new.slots i ≡ Slot.Full t h) }
+{
+    let buckets = near.buckets;
     let more = twice(buckets);
     let Ok(slots) = grown(alloc, &near.slots, more) else {
         return;

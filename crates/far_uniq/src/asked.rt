@@ -15,9 +15,9 @@ pub struct Asked {
     pub folder: Option<String>,
     /// What ends a line.
     pub end: u8,
-    /// Whether it says at its end how many lines came.
+    /// Whether lines are printed at the end, with how often each came.
     pub counts: bool,
-    /// Whether it says each second how much came.
+    /// Whether it says each second and at its end how much came.
     pub tells: bool,
     pub files: Vec<String>,
 }

@@ -1,5 +1,8 @@
 //! What the memory is given to, and the far file.
 
+ghost use Rattle.std.specs.Prelude.{◌≤◌, ◌+◌};
+ghost use Rattle.far_uniq.specs.declared.room.TheConstants.{COUNT, LEAST, LINE};
+
 use crate::asked::Asked;
 use crate::told::Fault;
 use far_file::NewFile;
@@ -13,6 +16,9 @@ const BESIDE: u64 = 3_145_728;
 /// Bytes near that a line takes, wherever it lies: 24 of its heap, 12 of the index.
 const LINE: u64 = 36;
 
+/// And those that it takes where lines are counted: 4 for what stands for it, 8 for its count.
+const COUNT: u64 = 12;
+
 /// Bytes of logs for each line that there may be.
 const LOGS: u64 = 12;
 
@@ -21,6 +27,9 @@ const HEAP: u64 = 2_048;
 
 /// The least memory: for one heap, and the line that is read.
 const LEAST: u64 = (BESIDE + HEAP * (LINE + LOGS)) * 32 / 31 + 1;
+
+/// The same where lines are counted.
+const LEAST_COUNTED: u64 = (BESIDE + HEAP * (LINE + COUNT + LOGS)) * 32 / 31 + 1;
 
 #[derive(Drop)]
 pub struct Room {
@@ -33,15 +42,27 @@ pub struct Room {
 
 /// A 32nd of the memory is for the line that is read, and what is written of it. A quarter of the rest is for lines that lie near, the
 /// rest is for what each line takes.
-pub fn room_in(near: u64) -> Result<Room, Fault> {
-    if near < LEAST {
-        return Err(Fault::Small(LEAST));
+pub fn room_in(near: u64, counts: bool) -> Result<Room, Fault> {
+    if counts {
+        room_for(near, LINE + COUNT, LEAST_COUNTED)
+    } else {
+        room_for(near, LINE, LEAST)
+    }
+}
+
+// The same, by how much a line takes, and the least memory then.
+fn room_for(near: u64, line: u64, least: u64) -> Result<Room, Fault>
+    requires line { line ≤ LINE + COUNT }
+    requires least { LEAST ≤ least }
+{
+    if near < least {
+        return Err(Fault::Small(least));
     }
     let longest = near / 64;
     let shared = near - BESIDE - 2 * longest;
-    let lines = shared / (LINE + LOGS) / HEAP * HEAP;
+    let lines = shared / (line + LOGS) / HEAP * HEAP;
     let plan = Plan {
-        near: shared - lines * LINE,
+        near: shared - lines * line,
         objects: lines,
         typical: 64,
     };

@@ -4,13 +4,15 @@ ghost use Rattle.std.specs.Prelude.{◌≡◌, true, IfOk, IfSome, OnErr};
 ghost use Rattle.far_private.specs.Heap.{IsOutside};
 ghost use Rattle.far_private.specs.Numbered.{IsNoPlace};
 ghost use Rattle.far_firsts.specs.Causes.{Refuses};
+ghost use Rattle.far_firsts.specs.Tallies.{TellsCounts};
 ghost use Rattle.far_firsts.specs.Telling.{Tells};
 
+use crate::apart::Apart;
 use crate::room::Room;
 use far_device::Device;
-use far_firsts::{End, uniq};
+use far_firsts::{Counted, End, count_lines, uniq};
 use far_pool::{MakeDevice, Worker, WorkerStatistics};
-use far_seen::Seen;
+use far_seen::{Seen, Tally};
 use far_word::Refused;
 use std::alloc::Global;
 use std::io::{Read, Write};
@@ -54,4 +56,47 @@ pub fn print_firsts<D: Device + Drop, M: MakeDevice<D> + Drop, R: Read, W: Write
     let lines = seen.len();
     let far = seen.worker().statistics();
     Ok(Printed { end, lines, far })
+}
+
+/// How a count ended, how many different lines came, and what the far side has done.
+#[derive(Drop)]
+pub struct PrintedCounts {
+    pub counted: Counted,
+    pub lines: usize,
+    pub far: WorkerStatistics,
+}
+
+/// Counts the lines of the input, and prints each once at its end, after how often it came. Far objects and what is refused are those of
+/// [`print_firsts`].
+pub fn print_counts<D: Device + Drop, M: MakeDevice<D> + Drop, R: Read, W: Write>(
+    alloc: Global,
+    devices: M,
+    honest: bool,
+    room: &Room,
+    seed: [u8; 16],
+    end: u8,
+    input: &mut R,
+    output: &mut W,
+) -> Result<PrintedCounts, Refused>
+    requires { honest ≡ true → M.honest ≡ true }
+    ensures printed { IfOk result (λ p. IfSome (R.remaining input.old) (λ text. TellsCounts room.now.longest (Refuses IsNoPlace IsOutside honest) honest end p.counted.lines p.counted.ending text (R.remaining input.new) (W.contents output.old) (W.contents output.new))) }
+    ensures input { OnErr result (R.remaining input.new ≡ R.remaining input.old) }
+    ensures output { OnErr result (W.contents output.new ≡ W.contents output.old) }
+{
+    let worker = match Worker::new(alloc, devices, room.layout, honest) {
+        Ok(worker) => worker,
+        Err(why) => return Err(why),
+    };
+    let mut tally = match Tally::with_room(alloc, Apart::new(worker), seed, room.lines) {
+        Ok(tally) => tally,
+        Err(why) => return Err(why),
+    };
+    let counted = count_lines(alloc, &mut tally, end, room.longest, input, output);
+    let lines = tally.len();
+    let far = tally.worker().worker().statistics();
+    Ok(PrintedCounts {
+        counted,
+        lines,
+        far,
+    })
 }

@@ -1,7 +1,7 @@
 //! What is said at an end that isn't the right one.
 
 use crate::room::Room;
-use far_firsts::{End, Why};
+use far_firsts::{Counted, End, Ending, Why};
 use far_word::Refused;
 use std::io;
 use std::io::ErrorKind;
@@ -21,6 +21,8 @@ pub enum Fault {
     Start(Refused),
     /// At the line of this number, counted from 1: there are no more than so many lines that may be printed.
     Full(u64, usize),
+    /// The same where lines are counted, and nothing is printed.
+    Uncounted(u64, usize),
     /// There is no memory for this line: there would be for so many short ones; so many were printed.
     NoMemory(u64, usize, usize),
     /// This line is longer than so many bytes; so many were printed.
@@ -28,6 +30,8 @@ pub enum Fault {
     /// The far side, at this line; so many were printed.
     Line(u64, Refused, usize),
     Input(u64, io::Error, usize),
+    /// The far side, when so many lines were printed with their counts.
+    Lost(u64, Refused),
     Output(u64, io::Error),
     /// Who reads the output is gone.
     Closed,
@@ -55,6 +59,29 @@ pub fn ended(end: End, printed: usize, room: &Room) -> Result<(), Fault> {
         }
         Why::TooMany => Err(Fault::Large),
     }
+}
+
+/// What an end comes to where lines were counted, of which so many are different.
+pub fn ended_counts(counted: Counted, lines: usize, room: &Room) -> Result<(), Fault> {
+    let why = match counted.ending {
+        Ending::Done => Why::Done,
+        Ending::Refused(Refused::Memory | Refused::NoPointer) => {
+            if lines == room.lines {
+                return Err(Fault::Uncounted(counted.lines.saturating_add(1), lines));
+            }
+            Why::Refused(Refused::Memory)
+        }
+        Ending::Refused(why) => Why::Refused(why),
+        Ending::Input(e) => Why::Input(e),
+        Ending::TooMany => Why::TooMany,
+        Ending::Lost(shown, why) => return Err(Fault::Lost(shown, why)),
+        Ending::Output(e) => Why::Output(e),
+    };
+    let end = End {
+        lines: counted.lines,
+        why,
+    };
+    ended(end, 0, room)
 }
 
 // Why the far side or memory refused.
@@ -93,6 +120,13 @@ pub fn tell(rt: &HostRuntime, fault: &Fault, input: Option<&str>) -> ExitCode {
         ),
         Fault::Full(at, lines) => eprintln!(rt;
             "far_uniq: {file}: line {at} would be new beyond {lines}, all that -m has room for; they were printed"
+        ),
+        Fault::Uncounted(at, lines) => eprintln!(rt;
+            "far_uniq: {file}: line {at} would be new beyond {lines}, all that -m has room for with -c; nothing was printed"
+        ),
+        Fault::Lost(shown, why) => eprintln!(rt;
+            "far_uniq: {}, after {shown} lines were printed with their counts",
+            cause(why)
         ),
         Fault::Line(at, why, printed) => eprintln!(rt;
             "far_uniq: {file}: line {at}: {}; {printed} lines were printed",

@@ -1,5 +1,6 @@
 //! Texts over far objects in memory, and what is printed of them.
 
+mod counts;
 mod faults;
 mod streams;
 mod texts;

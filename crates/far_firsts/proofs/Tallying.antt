@@ -1,0 +1,207 @@
+-- What is counted of some bytes, and then of others.
+use Rattle.std.proofs.Common.{◌≡◌, ℕ, ◌+◌, ◌<◌, ◌≤◌, Bool, true, false, Option, Some, List, [], ◌∷◌, ◌++◌, length, refl, sym, ◌∙◌, ap, subst, arith}
+use Rattle.std.specs.FinSet as set
+use Rattle.std.specs.Io.KnownBytes.{Consumes, Keeps}
+use Rattle.std.proofs.lemmas.List.{append-nil, append_assoc, length-append}
+use Rattle.far_word.specs.declared.refused.Refused.{Refused as Refusal}
+use Rattle.far_seen.specs.Tallied.{Counts, counted, total}
+use Rattle.far_firsts.specs.Lines.{ends_in, key_of, lines_of, text_of, IsPlain}
+use Rattle.far_firsts.specs.Causes.{IsCause, IsWhyNext}
+use Rattle.far_firsts.specs.Doing.{Did, IsWhyHalt, State, Stopped, last_of}
+use Rattle.far_firsts.specs.Tallying.{Came, Counted, Gone, IsStop, Last, Whole, count_all, midst}
+use Rattle.far_firsts.specs.declared.end.Why.{Why}
+use Rattle.far_firsts.specs.declared.end.Why.TheVariants.{Done, Refused, Input, Output, TooMany}
+use Rattle.far_firsts.proofs.Causes.{all_ends, done_are, failed_read, halt_cause, last_halts, lines_are}
+use Rattle.far_firsts.proofs.Cuts.{all_plain_join, lines_last, plain_join, text_join}
+use Rattle.far_firsts.proofs.Steps.{did_then, left_of, some_same, stopped_at}
+
+pub no_two : false ≡ true → ⊥
+no_two e = cc
+
+-- ---- lines after lines
+count_join : (end : ℕ) (ps : Counts) (xs ys : List (List ℕ)) → count_all end ps (xs ++ ys) ≡ count_all end (count_all end ps xs) ys
+count_join end ps [] ys = refl
+count_join end ps (l ∷ ls) ys = count_join end (counted ps (key_of end l)) ls ys
+
+counted_none : (honest : Bool) (end : ℕ) (ps : Counts) → Counted honest end ps ps []
+counted_none honest end ps = record { total = omega arith; exact = λ h. refl }
+
+counted_one : (honest : Bool) (end : ℕ) (ps more : Counts) (line : List ℕ) → total more ≡ total ps + 1 → (honest ≡ true → more ≡ counted ps (key_of end line)) → Counted honest end ps more (line ∷ [])
+counted_one honest end ps more line all one = record { total = omega (arith, all); exact = one }
+
+counted_join : (honest : Bool) (end : ℕ) (ps qs rs : Counts) (xs ys : List (List ℕ)) → Counted honest end ps qs xs → Counted honest end qs rs ys → Counted honest end ps rs (xs ++ ys)
+counted_join honest end ps qs rs xs ys a b = record {
+  total = omega (arith, a.total, b.total, length-append xs ys);
+  exact = λ h. b.exact h ∙ ap (λ ks. count_all end ks ys) (a.exact h) ∙ sym (count_join end ps xs ys);
+}
+
+-- ---- bytes after bytes
+pub came_rest : (honest : Bool) (end : ℕ) (rest part : List ℕ) (count : ℕ) (new : List ℕ) (ps : Counts) → new ≡ part ++ rest → Came honest end rest part count new count ps ps
+came_rest honest end rest part count new ps kept = record { ended = []; plain = tt; text = sym kept; count = omega arith; counts = counted_none honest end ps }
+
+pub came_line : (honest : Bool) (end : ℕ) (part piece new : List ℕ) (count n : ℕ) (ps more : Counts) → IsPlain end part → IsPlain end piece → n ≡ count + 1 → new ≡ [] → total more ≡ total ps + 1 →
+    (honest ≡ true → more ≡ counted ps (key_of end (part ++ piece))) → Came honest end (piece ++ end ∷ []) part count new n ps more
+came_line honest end part piece new count n ps more p q one none all exact = record {
+  ended = (part ++ piece) ∷ [];
+  plain = (plain_join end part piece p q, tt);
+  text = sym (append_assoc part piece (end ∷ [])) ∙ sym (append-nil ((part ++ piece) ++ end ∷ [])) ∙ sym (append-nil (((part ++ piece) ++ end ∷ []) ++ [])) ∙ ap (λ t. (((part ++ piece) ++ end ∷ []) ++ []) ++ t) (sym none);
+  count = one;
+  counts = counted_one honest end ps more (part ++ piece) all exact;
+}
+
+pub came_then : (honest : Bool) (end : ℕ) (xs ys a b c : List ℕ) (k m n : ℕ) (ps qs rs : Counts) → Came honest end xs a k b m ps qs → Came honest end ys b m c n qs rs → Came honest end (xs ++ ys) a k c n ps rs
+came_then honest end xs ys a b c k m n ps qs rs d e = record {
+  ended = d.ended ++ e.ended;
+  plain = all_plain_join end d.ended e.ended d.plain e.plain;
+  text = sym (append_assoc a xs ys) ∙ ap (λ t. t ++ ys) d.text ∙ append_assoc (text_of end d.ended) b ys ∙ ap (λ t. text_of end d.ended ++ t) e.text
+      ∙ sym (append_assoc (text_of end d.ended) (text_of end e.ended) c) ∙ ap (λ t. t ++ c) (sym (text_join end d.ended e.ended));
+  count = omega (arith, d.count, e.count, length-append d.ended e.ended);
+  counts = counted_join honest end ps qs rs d.ended e.ended d.counts e.counts;
+}
+
+-- the lines of it, and nothing printed
+abbrev pub did_of : (honest : Bool) (end : ℕ) (xs a b : List ℕ) (k m : ℕ) (ps qs : Counts) → Came honest end xs a k b m ps qs → Did false end xs (midst a k) (midst b m) [] []
+did_of honest end xs a b k m ps qs came = record { ended = came.ended; kept = []; plain = came.plain; text = came.text; count = came.count; some = tt; exact = λ e. absurd (no_two e); out = refl }
+
+-- ---- what was read at once
+-- so much of it came
+abbrev pub Eaten : Bool → ℕ → List ℕ → List ℕ → ℕ → List ℕ → ℕ → Counts → Counts → List ℕ → Type 0
+Eaten honest end bytes part count new n ps qs rest = (ate : List ℕ) × (bytes ≡ ate ++ rest) × Came honest end ate part count new n ps qs
+
+pub none_eaten : (honest : Bool) (end : ℕ) (bytes part : List ℕ) (count : ℕ) (ps : Counts) → Eaten honest end bytes part count part count ps ps bytes
+none_eaten honest end bytes part count ps = ([], refl, came_rest honest end [] part count part ps (sym (append-nil part)))
+
+pub line_eaten : (honest : Bool) (end : ℕ) (bytes part : List ℕ) (count : ℕ) (b : List ℕ) (m : ℕ) (c : List ℕ) (n : ℕ) (ps qs rs : Counts) (rest piece more : List ℕ) → Eaten honest end bytes part count b m ps qs rest → rest ≡ (piece ++ end ∷ []) ++ more →
+    Came honest end (piece ++ end ∷ []) b m c n qs rs → Eaten honest end bytes part count c n ps rs more
+line_eaten honest end bytes part count b m c n ps qs rs rest piece more so cut came = (
+  so.0 ++ (piece ++ end ∷ []),
+  so.1 ∙ ap (λ t. so.0 ++ t) cut ∙ sym (append_assoc so.0 (piece ++ end ∷ []) more),
+  came_then honest end so.0 (piece ++ end ∷ []) part b c count m n ps qs rs so.2 came,
+)
+
+pub all_eaten : (honest : Bool) (end : ℕ) (bytes part : List ℕ) (count : ℕ) (b : List ℕ) (m : ℕ) (new : List ℕ) (ps qs : Counts) (rest : List ℕ) → Eaten honest end bytes part count b m ps qs rest → new ≡ b ++ rest → Came honest end bytes part count new m ps qs
+all_eaten honest end bytes part count b m new ps qs rest so kept =
+    subst (λ xs. Came honest end xs part count new m ps qs) (sym so.1) (came_then honest end so.0 rest part b new count m m ps qs qs so.2 (came_rest honest end rest b m new qs kept))
+
+pub eaten_stops : (longest : ℕ) (refuses : Refusal → Type 0) (honest : Bool) (end : ℕ) (bytes part : List ℕ) (count : ℕ) (b : List ℕ) (m n : ℕ) (ps qs : Counts) (rest : List ℕ) (why : Why) → Eaten honest end bytes part count b m ps qs rest → n ≡ m →
+    IsWhyHalt longest refuses end (midst (b ++ rest) m) why → Stopped longest refuses false end bytes (midst part count) n why [] []
+eaten_stops longest refuses honest end bytes part count b m n ps qs rest why so counted cause =
+    stopped_at longest refuses false end bytes so.0 rest (midst part count) set.empty b m n why [] [] [] so.1 (did_of honest end so.0 part b count m ps qs so.2) counted refl cause
+
+-- ---- the end of the text
+pub last_none : (honest : Bool) (end : ℕ) (part : List ℕ) (count : ℕ) (ps : Counts) → part ≡ [] → Last honest end part count count ps ps
+last_none honest end part count ps none = subst (λ t. Last honest end t count count ps ps) (sym none) (record { count = omega arith; counts = counted_none honest end ps })
+
+last_is : (xs : List ℕ) → (length xs ≡ 0 → ⊥) → ◌≡◌ {A = List (List ℕ)} (xs ∷ []) (last_of xs)
+last_is [] f = absurd (f refl)
+last_is (x ∷ xs) f = refl
+
+pub last_one : (honest : Bool) (end : ℕ) (part : List ℕ) (count n : ℕ) (ps more : Counts) → (length part ≡ 0 → ⊥) → n ≡ count + 1 → total more ≡ total ps + 1 → (honest ≡ true → more ≡ counted ps (key_of end (part ++ []))) → Last honest end part count n ps more
+last_one honest end part count n ps more some one all exact =
+    let is : ◌≡◌ {A = List (List ℕ)} ((part ++ []) ∷ []) (last_of part) = ap (λ (t : List ℕ). t ∷ []) (append-nil part) ∙ last_is part some in
+    record {
+      count = one ∙ ap (λ (t : List (List ℕ)). count + length t) is;
+      counts = subst (λ ls. Counted honest end ps more ls) is (counted_one honest end ps more (part ++ []) all exact);
+    }
+
+pub last_stops : (longest : ℕ) (refuses : Refusal → Type 0) (end : ℕ) (part : List ℕ) (count : ℕ) (why : Why) → IsPlain end part → (length part ≡ 0 → ⊥) → IsWhyNext longest refuses count (length (part ++ [])) why → IsWhyHalt longest refuses end (midst part count) why
+last_stops longest refuses end part count why plain some w = last_halts longest refuses end set.empty part count why plain some w
+
+-- ---- a whole text
+as_stop : (longest : ℕ) (refuses : Refusal → Type 0) (end n : ℕ) (s : State) (why : Why) (text : List ℕ) (left : Option (List ℕ)) → IsWhyHalt longest refuses end s why → IsCause longest refuses end n why text left → IsStop longest refuses end n why text left
+as_stop longest refuses end n s Done text left w cause = w
+as_stop longest refuses end n s (Refused why) text left w cause = cause
+as_stop longest refuses end n s (Input e) text left w cause = absurd w
+as_stop longest refuses end n s (Output e) text left w cause = tt
+as_stop longest refuses end n s TooMany text left w cause = cause
+
+pub begins : (honest : Bool) (end : ℕ) (text part : List ℕ) (count : ℕ) (counts : Counts) (left : Option (List ℕ)) → left ≡ Some text → part ≡ [] → count ≡ 0 → counts ≡ [] → Gone honest end 0 text part count counts left
+begins honest end text part count counts left is none zero nothing = record {
+  bytes = [];
+  rest = text;
+  all = refl;
+  is_left = is;
+  long = omega arith;
+  came = record { ended = []; plain = tt; text = sym none; count = omega (arith, zero); counts = record { total = omega (arith, ap total nothing); exact = λ h. nothing } };
+}
+
+module _ (honest : Bool) (end reads : ℕ) (text part : List ℕ) (count : ℕ) (counts : Counts) (left : Option (List ℕ)) (gone : Gone honest end reads text part count counts left) where
+  pub goes_on : (chunk new : List ℕ) (n : ℕ) (more : Counts) (after : Option (List ℕ)) → 0 < length chunk → Consumes left after chunk → Came honest end chunk part count new n counts more → Gone honest end (reads + 1) text new n more after
+  goes_on chunk new n more after some eats came =
+      let rest = left_of left after gone.rest chunk gone.is_left eats in
+      record {
+        bytes = gone.bytes ++ chunk;
+        rest = rest.0;
+        all = gone.all ∙ ap (λ t. gone.bytes ++ t) rest.2 ∙ sym (append_assoc gone.bytes chunk rest.0);
+        is_left = rest.1;
+        long = omega (arith, gone.long, some, length-append gone.bytes chunk);
+        came = came_then honest end gone.bytes chunk [] part new 0 count n [] counts more gone.came came;
+      }
+
+  abbrev did : Did false end gone.bytes (midst [] 0) (midst part count) [] []
+  did = did_of honest end gone.bytes [] part 0 count [] counts gone.came
+
+  module _ (longest : ℕ) (refuses : Refusal → Type 0) where
+    -- so many lines are there
+    few : (bytes rest : List ℕ) (s : State) (n : ℕ) → text ≡ bytes ++ rest → Did false end bytes (midst [] 0) s [] [] → s.count ≡ n → n ≤ length (lines_of end text)
+    few bytes rest s n is d counted =
+        omega (
+          arith,
+          done_are longest refuses false end text bytes rest [] (midst [] 0) s left is refl refl d n counted,
+          ap (λ (t : List (List ℕ)). length t) (lines_are longest refuses false end text bytes rest [] (midst [] 0) s left is refl refl d),
+          length-append d.ended (lines_of end (s.part ++ rest)),
+        )
+
+    -- the input fails
+    pub fails : (n : ℕ) (why : Why) (after : Option (List ℕ)) → count ≡ n → IsPlain end part → Keeps left after → ((read : List ℕ) × Consumes (Some text) after read × (n ≡ ends_in end read) → IsStop longest refuses end n why text after) →
+        (n ≤ length (lines_of end text)) × IsStop longest refuses end n why text after
+    fails n why after counted plain keeps so = (
+      few gone.bytes gone.rest (midst part count) n gone.all did counted,
+      so (gone.bytes, failed_read left after text gone.bytes gone.rest gone.is_left gone.all keeps, all_ends longest refuses false end text gone.bytes gone.rest [] (midst [] 0) (midst part count) after gone.all refl refl did n counted plain),
+    )
+
+    -- too much came
+    pub ends_there : (n : ℕ) → count ≡ n → 18446744073709551615 ≤ reads → (n ≤ length (lines_of end text)) × IsStop longest refuses end n TooMany text left
+    ends_there n counted many = (
+      few gone.bytes gone.rest (midst part count) n gone.all did counted,
+      omega (arith, many, gone.long, ap (λ (t : List ℕ). length t) gone.all, length-append gone.bytes gone.rest),
+    )
+
+    -- it ends in the midst of what was read
+    pub halts : (chunk : List ℕ) (n : ℕ) (why : Why) (after : Option (List ℕ)) → Consumes left after chunk → Stopped longest refuses false end chunk (midst part count) n why [] [] → (n ≤ length (lines_of end text)) × IsStop longest refuses end n why text after
+    halts chunk n why after eats stopped =
+        let more = left_of left after gone.rest chunk gone.is_left eats in
+        let s = stopped.now in
+        let is : text ≡ (gone.bytes ++ chunk) ++ more.0 = gone.all ∙ ap (λ t. gone.bytes ++ t) more.2 ∙ sym (append_assoc gone.bytes chunk more.0) in
+        let d : Did false end (gone.bytes ++ chunk) (midst [] 0) s [] [] = did_then false end (midst [] 0) (midst part count) s gone.bytes chunk [] [] [] did stopped.did in (
+          few (gone.bytes ++ chunk) more.0 s n is d stopped.counted,
+          as_stop longest refuses end n s why text after stopped.cause
+              (halt_cause longest refuses false end text (gone.bytes ++ chunk) more.0 [] (midst [] 0) s after is refl refl d n why stopped.counted stopped.cause),
+        )
+
+    -- the text has ended, and its last line isn't taken
+    pub last_fails : (n : ℕ) (why : Why) (after : Option (List ℕ)) → count ≡ n → IsWhyHalt longest refuses end (midst part count) why → (n ≤ length (lines_of end text)) × IsStop longest refuses end n why text after
+    last_fails n why after counted w = (
+      few gone.bytes gone.rest (midst part count) n gone.all did counted,
+      as_stop longest refuses end n (midst part count) why text after w
+          (halt_cause longest refuses false end text gone.bytes gone.rest [] (midst [] 0) (midst part count) after gone.all refl refl did n why counted w),
+    )
+
+    -- all is counted
+    pub finishes : (n : ℕ) (more : Counts) → left ≡ Some [] → IsPlain end part → Last honest end part count n counts more → Whole honest end n text more
+    finishes n more over plain last =
+        let rest : gone.rest ≡ [] = some_same gone.rest [] (sym gone.is_left ∙ over) in
+        let lines : lines_of end text ≡ gone.came.ended ++ last_of part =
+        lines_are longest refuses false end text gone.bytes gone.rest [] (midst [] 0) (midst part count) left gone.all refl refl did
+        ∙ ap (λ t. gone.came.ended ++ lines_of end t) (ap (λ t. part ++ t) rest ∙ append-nil part) ∙ ap (λ t. gone.came.ended ++ t) (lines_last end part plain) in
+        record {
+          count = omega (arith, last.count, gone.came.count, ap (λ (t : List (List ℕ)). length t) lines, length-append gone.came.ended (last_of part));
+          counts = subst (λ ls. Counted honest end [] more ls) (sym lines) (counted_join honest end [] counts more gone.came.ended (last_of part) gone.came.counts last.counts);
+        }
+
+-- as an end says it
+pub at_end : (longest : ℕ) (refuses : Refusal → Type 0) (end n m : ℕ) (why ended : Why) (text : List ℕ) (left : Option (List ℕ)) → m ≡ n → ended ≡ why → (n ≤ length (lines_of end text)) × IsStop longest refuses end n why text left →
+    (m ≤ length (lines_of end text)) × IsStop longest refuses end m ended text left
+at_end longest refuses end n m why ended text left same is p =
+    subst (λ k. (k ≤ length (lines_of end text)) × IsStop longest refuses end k ended text left) (sym same)
+    (subst (λ w. (n ≤ length (lines_of end text)) × IsStop longest refuses end n w text left) (sym is) p)
