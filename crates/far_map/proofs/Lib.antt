@@ -11,3 +11,4 @@ pub mod PutLast
 pub mod Listing
 pub mod Folding
 pub mod EachOnce
+pub mod Walking

@@ -12,8 +12,10 @@ mod map;
 mod near;
 mod parts;
 mod steps;
+mod walk;
 mod whole;
 
 pub use laws::{entries_are_told, what_was_put_last};
 pub use map::Map;
+pub use walk::Walk;
 pub use whole::Statistics;
