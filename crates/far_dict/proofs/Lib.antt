@@ -7,3 +7,4 @@ pub mod Moves
 pub mod Union
 pub mod Changes
 pub mod Told
+mod Walking

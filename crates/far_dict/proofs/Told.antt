@@ -40,13 +40,13 @@ valued_all far names = record {
 find_in : (told : List Entry) (m : Entries) (q : List ℕ) → AreAllOf told m → map.find (slice_cmp nat_cmp) q told ≡ map.get m q
 find_in told m q all = sym (map.get-from_entries nat_list_cmp_total told q) ∙ ap (λ (n : Entries). map.get n q) all.are
 
-listed_all : (m : Entries) → AreAllOf (map.entries m) m
+pub listed_all : (m : Entries) → AreAllOf (map.entries m) m
 listed_all m = record {
   are = same_values _ _ (λ q. map.get-from_entries nat_list_cmp_total (map.entries m) q ∙ sym (map.get-entries m q));
   once = sym (map.len-entries m);
 }
 
-all_of_both : (a b : Table) (s t : List Entry) → AreApart a b → a.honest ≡ true → AreAllOf s a.entries → AreAllOf t b.entries → AreAllOf (s ++ t) (both a.entries b.entries)
+pub all_of_both : (a b : Table) (s t : List Entry) → AreApart a b → a.honest ≡ true → AreAllOf s a.entries → AreAllOf t b.entries → AreAllOf (s ++ t) (both a.entries b.entries)
 all_of_both a b s t apart honest of_a of_b = record {
   are =
       same_values _ _ (λ q. map.get-from_entries nat_list_cmp_total (s ++ t) q ∙ find_append q s t

@@ -8,7 +8,11 @@ mod long;
 mod near;
 mod reading;
 mod steps;
+mod tour;
+mod walk;
 mod whole;
 
 pub use dict::Dict;
+pub use tour::Tour;
+pub use walk::Walk;
 pub use whole::Statistics;

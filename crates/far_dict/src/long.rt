@@ -1,6 +1,6 @@
 //! Long values over far objects.
 
-ghost use Rattle.std.specs.Prelude.{◌≡◌, ◌⊎◌, ℕ, ◌<◌, true, false, not, Some, None, IfOk, IfErr, OnErr, OnOk, MatchOption, length};
+ghost use Rattle.std.specs.Prelude.{◌≡◌, ◌⊎◌, ℕ, ◌<◌, true, false, not, Some, None, IfOk, IfErr, OnErr, OnOk, MatchOption, length, map as each};
 ghost use Rattle.std.specs.FinMap as map;
 ghost use Rattle.std.specs.Fn.{CalledAtTwo, FnOnceReturnsAt};
 ghost use Rattle.far_word.specs.declared.refused.Refused.TheVariants.{Memory};
@@ -14,7 +14,7 @@ use crate::near::Near;
 use crate::steps::{Parts, drop_all, put, read_long, take_out};
 use far_objects::Objects;
 use far_word::Refused;
-use std::alloc::Global;
+use std::alloc::{AllocError, Global};
 use std::marker::Model;
 
 /// Values of one byte or more by keys that are near.
@@ -68,6 +68,13 @@ impl<O: Objects + Drop> Long<O> {
         ensures { result ≡ map.contains_key self.now.entries key.now }
     {
         self.parts.near.has(key)
+    }
+
+    /// The keys, in order.
+    pub fn names(&self) -> Result<Vec<Vec<u8>>, AllocError>
+        ensures { IfOk result (λ v. each (λ k. k.items) v.items ≡ map.keys self.now.entries) }
+    {
+        self.parts.near.names(self.parts.alloc)
     }
 
     /// Whether a key has a value; then `out` has it.

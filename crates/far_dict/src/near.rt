@@ -1,6 +1,6 @@
 //! Which values are long: near, by their keys.
 
-ghost use Rattle.std.specs.Prelude.{◌≡◌, List, ℕ, true, IfOk, IfErr, IfSome, IfNone, OnOk, OnErr, Some};
+ghost use Rattle.std.specs.Prelude.{◌≡◌, List, ℕ, true, IfOk, IfErr, IfSome, IfNone, OnOk, OnErr, Some, map as each};
 ghost use Rattle.std.specs.FinMap as map;
 ghost use Rattle.std.specs.Fn.{CalledAtTwo};
 ghost use Rattle.std.specs.Option.{option_copied};
@@ -8,12 +8,13 @@ ghost use Rattle.far_large.specs.Parts.{Parts};
 ghost use Rattle.far_map.specs.Causes.{IsWhyRead};
 ghost use Rattle.far_map.specs.Listed.{FoldsUntil, GivesAt, StepsAtEach};
 ghost use Rattle.far_dict.specs.Longs.{IsWhole, valued};
+ghost use Rattle.far_dict.specs.Names.{names_in};
 
 use crate::reading::{fold_rows, visit_rows};
 use far_large::Large;
 use far_objects::Objects;
 use far_word::Refused;
-use std::alloc::Global;
+use std::alloc::{AllocError, Global};
 use std::collections::BTreeMap;
 use std::marker::Model;
 
@@ -39,6 +40,23 @@ fn value_of(entry: (Vec<u8>, Large)) -> Large
 {
     let (_key, large) = entry;
     large
+}
+
+/// The keys of a table, in order.
+fn names_of(table: &BTreeMap<Vec<u8>, Large>, alloc: Global) -> Result<Vec<Vec<u8>>, AllocError>
+    ensures { IfOk result (λ v. each (λ k. k.items) v.items ≡ map.keys (names_in (λ k. k.items) table.now.entries)) }
+{
+    let mut names = Vec::new(alloc);
+    for (key, _large) in table {
+        let name = match Vec::from_slice(alloc, key.as_slice()) {
+            Ok(name) => name,
+            Err(why) => return Err(why),
+        };
+        let Ok(()) = names.push(name) else {
+            return Err(AllocError);
+        };
+    }
+    Ok(names)
 }
 
 impl Near {
@@ -99,6 +117,13 @@ impl Near {
             return None;
         };
         Some(value_of(entry))
+    }
+
+    /// The keys, in order.
+    pub fn names(&self, alloc: Global) -> Result<Vec<Vec<u8>>, AllocError>
+        ensures { IfOk result (λ v. each (λ k. k.items) v.items ≡ map.keys self.now) }
+    {
+        names_of(&self.table, alloc)
     }
 
     /// Calls `visit` with each key and the bytes of its value, in the order of the keys.

@@ -12,3 +12,4 @@ pub mod PutLast
 pub mod Listing
 pub mod Folding
 pub mod EachOnce
+pub mod Walking

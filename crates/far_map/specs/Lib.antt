@@ -6,3 +6,4 @@ pub mod Causes
 pub mod Finding
 pub mod Laws
 pub mod Listed
+pub mod Walks

@@ -13,8 +13,10 @@ mod near;
 mod parts;
 mod puts;
 mod steps;
+mod walk;
 mod whole;
 
 pub use laws::{entries_are_told, what_was_put_last};
 pub use map::Map;
+pub use walk::Walk;
 pub use whole::Statistics;
