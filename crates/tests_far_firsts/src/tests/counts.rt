@@ -189,7 +189,13 @@ fn a_far_side_refuses_a_count(rt: HostRuntime) {
 fn a_lie_is_told_at_the_end(rt: HostRuntime) {
     let double = Double::new(rt.alloc(), false, 10, 0);
     let mut output = Watched::new(rt.alloc(), 100, 100);
-    let came = count(rt.alloc(), double, FREE, &mut slow(b"a\nb", 100), &mut output);
+    let came = count(
+        rt.alloc(),
+        double,
+        FREE,
+        &mut slow(b"a\nb", 100),
+        &mut output,
+    );
     assert!(rt; came == Ok((2, Name::Lost(0))) && output.out.is_empty());
 }
 
@@ -246,7 +252,13 @@ fn a_longer_line_ends_a_count(rt: HostRuntime) {
     };
     let double = Double::new(rt.alloc(), true, 10, 0);
     let mut output = Watched::new(rt.alloc(), 100, 100);
-    let came = count(rt.alloc(), double, side, &mut slow(b"a\nab\nabc\n", 4), &mut output);
+    let came = count(
+        rt.alloc(),
+        double,
+        side,
+        &mut slow(b"a\nab\nabc\n", 4),
+        &mut output,
+    );
     assert!(rt; came == Ok((2, Name::Long)) && output.out.is_empty());
 }
 
@@ -304,7 +316,12 @@ fn line_of(alloc: Global, kind: usize, long: usize) -> Result<Vec<u8>, Refused> 
 
 #[test]
 fn many_and_long_lines_are_counted(rt: HostRuntime) {
-    for row in [(5_000usize, 20usize), (40, 4_084), (40, 4_085), (30, 90_000)] {
+    for row in [
+        (5_000usize, 20usize),
+        (40, 4_084),
+        (40, 4_085),
+        (30, 90_000),
+    ] {
         assert!(rt;
             counts_many(rt.alloc(), row.0, row.1) == Ok(true),
             "{} {}",
