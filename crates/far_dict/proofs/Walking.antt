@@ -67,9 +67,12 @@ module _ {K : Type 0} (key : K → List ℕ) where
       let here = at_name ks (map.entries long.entries) n x names low is in
       let next : suc n ≡ n + 1 = omega arith in
       let e = here.0 in
-      let at : q ≡ e.0 = same ∙ here.2 in
-      (e, here.1 ∙ ap (λ k. e ∷ drop k (map.entries long.entries)) next, at,
-      ap (map.get long.entries) at ∙ entries_told.there (map.entries long.entries) long.entries n e.0 e.1 (listed_all long.entries) here.3)
+      let at : q ≡ e.0 = same ∙ here.2 in (
+        e,
+        here.1 ∙ ap (λ k. e ∷ drop k (map.entries long.entries)) next,
+        at,
+        ap (map.get long.entries) at ∙ entries_told.there (map.entries long.entries) long.entries n e.0 e.1 (listed_all long.entries) here.3,
+      )
 
 pub no_short : (m n : ℕ) (es rest : List Entry) (there : Bool) (key value : List ℕ) → there ≡ false → TellsNext m n es there key value rest → (es ≡ []) × (rest ≡ [])
 no_short m n [] rest there key value none told = (refl, told.1)

@@ -96,11 +96,7 @@ fn next_entry<O: Objects + Drop>(parts: &mut Parts<O>, from: usize) -> Result<Op
 }
 
 /// Copies a key and a value.
-fn copy_to(
-    bytes: &[u8],
-    key: &mut Vec<u8>,
-    value: &mut Vec<u8>,
-) -> bool
+fn copy_to(bytes: &[u8], key: &mut Vec<u8>, value: &mut Vec<u8>) -> bool
     ensures { result ≡ true → (e : Entry) → decoded bytes.now ≡ Some e → (key.new.items ≡ e.0) × (value.new.items ≡ e.1) }
 {
     let Some((own, told)) = split_entry(bytes) else {
