@@ -1,4 +1,4 @@
-"""Foxglovepeg for Python: objects of 1 to 4,088 bytes behind handles that no stale copy can misuse, some near, the others packed in memory.
+"""Foxglovepeg for Python: objects of 1 to 4,088 bytes behind handles that no stale copy can misuse, and dicts of bytes, some near, the others packed in memory.
 
     with Worker(near=1 << 26, objects=1_000_000, typical=64) as worker:
         handle = worker.alloc(b"hello")
@@ -6,11 +6,17 @@
         assert worker.read(handle) == b"Jello"
         worker.drop(handle)
 
-A worker is one thread's. libfoxglovepeg.so lies beside this file, or where FOXGLOVEPEG says. PyDLL, not CDLL: no other thread runs during a call.
+    with FarDict(near=1 << 26, entries=1_000_000, typical=64) as words:
+        words[b"fig"] = b"a fruit"
+        assert b"fig" in words and len(words) == 1
+        del words[b"fig"]
+
+A worker or a dict is one thread's. libfoxglovepeg.so lies beside this file, or where FOXGLOVEPEG says. PyDLL, not CDLL: no other thread runs during a call.
 """
 import ctypes as c
 import os
 import pathlib
+import typing
 
 
 class Refused(Exception):
@@ -23,16 +29,19 @@ STATUSES = {
     1: ("OutOfMemory", "out of memory"),
     2: ("NoRoom", "nothing near can leave: memory is refused"),
     3: ("NoPointer", "each heap has its 2,048 objects"),
-    4: ("Length", "an object has 1 to 4,088 bytes"),
+    4: ("Length", "an object has 1 to 4,088 bytes; a key at most 4,086"),
     7: ("NotHeld", "there is no such object"),
     8: ("Range", "no byte was asked for, or they pass the object's end"),
     10: ("Device", "a far object is lost"),
     11: ("Damaged", "a far object has another length"),
     13: ("EpochsSpent", "2^62 rounds were made"),
-    20: ("Closed", "the worker is not open"),
-    21: ("Open", "the worker is open"),
+    20: ("Closed", "it is not open"),
+    21: ("Open", "it is open already"),
     22: ("Objects", "a worker has at most 2^32 objects"),
     23: ("Near", "too few bytes near for so many objects"),
+    24: ("NoKey", "there is no such key"),
+    25: ("Short", "a buffer has too little room"),
+    26: ("End", "no entry is left to be told"),
 }
 BY_STATUS = {status: type(name, (Refused,), {"status": status, "__doc__": words}) for status, (name, words) in STATUSES.items()}
 globals().update({kind.__name__: kind for kind in BY_STATUS.values()})
@@ -40,6 +49,15 @@ globals().update({kind.__name__: kind for kind in BY_STATUS.values()})
 
 class _Worker(c.Structure):
     _fields_ = [("live", c.c_bool), ("at", c.c_void_p)]
+
+
+class _Map(c.Structure):
+    _fields_ = [("live", c.c_bool), ("at", c.c_void_p)]
+
+
+class _MapPlan(c.Structure):
+    WORDS = "near_bytes entries long_near_bytes long_parts seed more_seed".split()
+    _fields_ = [(word, c.c_uint64) for word in WORDS] + [("typical", c.c_uint16)]
 
 
 class Statistics(c.Structure):
@@ -53,7 +71,7 @@ class Statistics(c.Structure):
 
 
 _lib = c.PyDLL(os.environ.get("FOXGLOVEPEG") or str(pathlib.Path(__file__).resolve().parent / "libfoxglovepeg.so"))
-_WORKER, _U64 = c.POINTER(_Worker), c.POINTER(c.c_uint64)
+_WORKER, _MAP, _U64, _SIZE = c.POINTER(_Worker), c.POINTER(_Map), c.POINTER(c.c_uint64), c.POINTER(c.c_size_t)
 _ARGUMENTS = {
     "far_open_memory": [_WORKER, c.c_uint64, c.c_uint64, c.c_uint16],
     "far_close": [_WORKER],
@@ -66,15 +84,27 @@ _ARGUMENTS = {
     "far_holds": [_WORKER, c.c_uint64],
     "far_add_heap": [_WORKER],
     "far_statistics": [_WORKER, c.POINTER(Statistics)],
+    "far_map_open_memory": [_MAP, c.POINTER(_MapPlan)],
+    "far_map_close": [_MAP],
+    "far_map_put": [_MAP, c.c_char_p, c.c_size_t, c.c_char_p, c.c_size_t],
+    "far_map_get": [_MAP, c.c_char_p, c.c_size_t, c.c_char_p, c.c_size_t, _SIZE],
+    "far_map_remove": [_MAP, c.c_char_p, c.c_size_t],
+    "far_map_holds": [_MAP, c.c_char_p, c.c_size_t],
+    "far_map_length": [_MAP, _SIZE],
+    "far_map_clear": [_MAP],
+    "far_map_begin": [_MAP],
+    "far_map_next": [_MAP, c.c_char_p, c.c_size_t, _SIZE, c.c_char_p, c.c_size_t, _SIZE],
+    "far_map_statistics": [_MAP, c.POINTER(Statistics), c.POINTER(Statistics)],
 }
 for _name, _arguments in _ARGUMENTS.items():
     getattr(_lib, _name).argtypes = _arguments
     getattr(_lib, _name).restype = c.c_int32
-_lib.far_worker_size.restype = c.c_size_t
-if _lib.far_worker_size() != c.sizeof(_Worker):
-    raise ImportError("libfoxglovepeg.so has another struct far_worker")
+_lib.far_worker_size.restype = _lib.far_map_size.restype = c.c_size_t
+if _lib.far_worker_size() != c.sizeof(_Worker) or _lib.far_map_size() != c.sizeof(_Map):
+    raise ImportError("libfoxglovepeg.so has other structs")
 
 _alloc, _read, _write, _drop, _length = _lib.far_alloc, _lib.far_read, _lib.far_write, _lib.far_drop, _lib.far_length
+_put, _get, _remove, _next = _lib.far_map_put, _lib.far_map_get, _lib.far_map_remove, _lib.far_map_next
 
 
 def _done(status: int) -> None:
@@ -165,3 +195,111 @@ class Worker:
         all_ = Statistics()
         _done(_lib.far_statistics(self._at, c.byref(all_)))
         return all_
+
+
+class FarDict:
+    """A dict from bytes to bytes: `near` bytes of its entries as they are, the others packed. A key has at most 4,086 bytes.
+
+    `entries` is how many of at most 4,086 bytes there will be, key and value together; `typical`, how many bytes most of them have. Values of longer ones are
+    cut into parts of 4,088 bytes: `long_parts` of them, `long_near` bytes of which lie near, or as few as will do."""
+
+    def __init__(self, near: int, entries: int, typical: int, long_parts: int = 2048, long_near: "int | None" = None):
+        self._held = _Map()
+        self._at = c.byref(self._held)
+        self._buffer, self._key = c.create_string_buffer(4088), c.create_string_buffer(4086)
+        self._size, self._key_size = c.c_size_t(), c.c_size_t()
+        self._size_at, self._key_size_at = c.byref(self._size), c.byref(self._key_size)
+        self._walks = 0
+        seed = os.urandom(16)
+        words = near, entries, least_near(long_parts, 4088) if long_near is None else long_near, long_parts
+        plan = _MapPlan(*words, int.from_bytes(seed[:8], "little"), int.from_bytes(seed[8:], "little"), typical)
+        _done(_lib.far_map_open_memory(self._at, c.byref(plan)))
+
+    def __enter__(self) -> "FarDict":
+        return self
+
+    def __exit__(self, *_) -> None:
+        if self._held.live:
+            self.close()
+
+    def __del__(self) -> None:
+        if getattr(self, "_held", None) is not None and self._held.live:
+            self.close()
+
+    def close(self) -> None:
+        """The entries are gone, and the memory is given back."""
+        _done(_lib.far_map_close(self._at))
+
+    def get(self, key: bytes, default: "bytes | None" = None) -> "bytes | None":
+        """The value of a key, or `default`."""
+        status = _get(self._at, key, len(key), self._buffer, len(self._buffer), self._size_at)
+        while status == 25:
+            self._buffer = c.create_string_buffer(2 * self._size.value)
+            status = _get(self._at, key, len(key), self._buffer, len(self._buffer), self._size_at)
+        if status == 24:
+            return default
+        if status:
+            _done(status)
+        return self._buffer[: self._size.value]
+
+    def __getitem__(self, key: bytes) -> bytes:
+        value = self.get(key)
+        if value is None:
+            raise KeyError(key)
+        return value
+
+    def __setitem__(self, key: bytes, value: bytes) -> None:
+        self._walks += 1
+        status = _put(self._at, key, len(key), value, len(value))
+        if status:
+            _done(status)
+
+    def __delitem__(self, key: bytes) -> None:
+        self._walks += 1
+        status = _remove(self._at, key, len(key))
+        if status == 24:
+            raise KeyError(key)
+        if status:
+            _done(status)
+
+    def __contains__(self, key: bytes) -> bool:
+        status = _lib.far_map_holds(self._at, key, len(key))
+        if status not in (0, 24):
+            _done(status)
+        return status == 0
+
+    def __len__(self) -> int:
+        _done(_lib.far_map_length(self._at, self._size_at))
+        return self._size.value
+
+    def clear(self) -> None:
+        """Drops all entries."""
+        self._walks += 1
+        _done(_lib.far_map_clear(self._at))
+
+    def items(self) -> "typing.Iterator[tuple[bytes, bytes]]":
+        """Each key with its value, once. Where the dict is changed or gone over anew before the end, this one raises RuntimeError."""
+        self._walks += 1
+        walk = self._walks
+        _done(_lib.far_map_begin(self._at))
+        while True:
+            if walk != self._walks:
+                raise RuntimeError("the FarDict was changed, or gone over anew, while it was gone over")
+            status = _next(self._at, self._key, len(self._key), self._key_size_at, self._buffer, len(self._buffer), self._size_at)
+            if status == 25:
+                self._buffer = c.create_string_buffer(2 * self._size.value)
+            elif status == 26:
+                return
+            elif status:
+                _done(status)
+            else:
+                yield self._key[: self._key_size.value], self._buffer[: self._size.value]
+
+    def __iter__(self) -> "typing.Iterator[bytes]":
+        return (key for key, _ in self.items())
+
+    def statistics(self) -> "tuple[Statistics, Statistics]":
+        """Of entries of at most 4,086 bytes, and of the parts of longer values."""
+        entries, parts = Statistics(), Statistics()
+        _done(_lib.far_map_statistics(self._at, c.byref(entries), c.byref(parts)))
+        return entries, parts

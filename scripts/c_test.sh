@@ -1,7 +1,7 @@
 #!/usr/bin/env bash
-# Builds the library for C, and tries it from C, C++ and Python. Where all is well it writes one line: how many tests passed.
+# Builds the library for C, and tries it from C, C++, Python and, where rustc is there, Rust. Where all is well it writes one line: how many tests passed.
 #
-#     scripts/c_test.sh [CALLS]     calls at random beside a model, over memory and over a file each
+#     scripts/c_test.sh [CALLS]     calls at random beside a model, of a worker and of a map each
 set -euo pipefail
 calls="${1:-300000}"
 root="$(cd "$(dirname "${BASH_SOURCE[0]}")/.." && pwd)"
@@ -31,6 +31,10 @@ library="$folder/lib/libfoxglovepeg.a"
 cd "$folder"
 quiet cc -std=gnu99 "${words[@]}" -fsanitize=address,undefined "$root/c_api/test/model.c" "$library" -o model
 passes ./model "$calls"
+quiet cc -std=gnu99 "${words[@]}" -fsanitize=address,undefined "$root/c_api/test/map.c" "$library" -o map
+passes ./map "$calls"
+quiet cc -std=gnu99 "${words[@]}" -fsanitize=address,undefined "$root/c_api/test/fuzz.c" "$library" -o fuzz
+passes ./fuzz "$((calls / 3))"
 quiet cc -std=gnu99 "${words[@]}" -fsanitize=address,undefined "$root/c_api/test/refused.c" "$root/crates/far_c/out/libfar_c.a" -o refused
 passes ./refused
 quiet cc -std=gnu99 "${words[@]}" -fsanitize=thread "$root/c_api/test/threads.c" "$library" -pthread -o threads
@@ -41,4 +45,10 @@ passes ./header
 quiet cc -std=c99 -D_POSIX_C_SOURCE=200809L "${words[@]}" "$root/c_api/example/cache.c" -L "$folder/lib" -lfoxglovepeg -o cache
 LD_LIBRARY_PATH="$folder/lib" passes ./cache 20000 1048576
 PYTHONPATH="$folder/python" passes python3 "$root/c_api/test/beside_dict.py" 20000
+if command -v rustc >/dev/null; then
+    rust=(rustc --edition 2021 -O -D warnings -L "$folder/lib" -L .)
+    quiet "${rust[@]}" --crate-type rlib -l static=foxglovepeg "$folder/rust/foxglovepeg.rs"
+    quiet "${rust[@]}" --extern foxglovepeg=libfoxglovepeg.rlib "$root/c_api/rust/words.rs"
+    passes ./words
+fi
 echo "c_test.sh: $passed passed"

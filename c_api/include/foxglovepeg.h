@@ -1,15 +1,15 @@
-/* Foxglovepeg 2.0 for C and C++: objects of 1 to 4,088 bytes behind handles that no stale copy can misuse, in as many bytes near as you say, the others packed
- * in memory. There is no file yet.
+/* Foxglovepeg 2.0 for C and C++: objects of 1 to 4,088 bytes behind handles that no stale copy can misuse, and maps from bytes to bytes, in as many bytes near
+ * as you say, the rest packed in memory. There is no file yet.
  *
- * Each function but what c_api/support.c has is proved. What C owes: a `struct far_worker` is all zero, or as the last call left it; none that is open is
- * copied; one call at a time has it; no two arguments of a call overlap; no pointer is NULL, also where its length is 0. Then no call aborts, whatever the
- * numbers are: a handle that is stale, made up, or another worker's, a length that doesn't fit, a second close, a call of a worker that isn't open are
- * answered by a status.
+ * Each function but what c_api/support.c has is proved. What C owes: a `struct far_worker` or `struct far_map` is all zero, or as the last call left it; none
+ * that is open is copied; one call at a time has it; no two arguments of a call overlap, unless it writes to neither; no pointer is NULL, also where its length is 0. Then no call aborts,
+ * whatever the numbers are: a handle that is stale, made up, or another worker's, a length that doesn't fit, a second close, a call of a worker or a map
+ * that isn't open are answered by a status.
  *
- * Threads: a worker stays on the thread that opened it. Several threads have a worker each. No call waits, takes a lock, or starts a thread. No
+ * Threads: a worker and a map stay on the thread that opened them. Several threads have some each. No call waits, takes a lock, or starts a thread. No
  * call may come from a signal handler.
  *
- * Memory: all of it is malloc's, and far_close gives it back. No call keeps a pointer that it was given. */
+ * Memory: all of it is malloc's, and closing gives it back. No call keeps a pointer that it was given. */
 #ifndef FOXGLOVEPEG_H
 #define FOXGLOVEPEG_H
 
@@ -31,22 +31,32 @@ struct far_worker {
 };
 #define FAR_WORKER_NONE {false, NULL}
 
-/* What a call answers. After any but FAR_OK the worker's objects are as they were, and what the call gives out isn't set. */
+/* A map: begin with FAR_MAP_NONE, and look at no field. */
+struct far_map {
+    bool live;
+    void *at;
+};
+#define FAR_MAP_NONE {false, NULL}
+
+/* What a call answers. After any but FAR_OK the objects of a worker and the entries of a map are as they were, and what the call gives out isn't set, unless it says so. */
 enum far_status {
     FAR_OK = 0,
     FAR_MEMORY = 1,        /* malloc refused memory */
     FAR_NO_ROOM = 2,       /* nothing near can leave: malloc refused memory for it */
     FAR_NO_POINTER = 3,    /* each heap has its 2,048 objects: far_add_heap makes room for more; or there are 2,097,152 heaps */
-    FAR_LENGTH = 4,        /* an object has 1 to 4,088 bytes */
+    FAR_LENGTH = 4,        /* an object has 1 to 4,088 bytes; a key at most 4,086 */
     FAR_NOT_HELD = 7,      /* the worker has no such object: it was dropped, or never was */
     FAR_RANGE = 8,         /* no byte was asked for, or they pass the object's end */
     FAR_DEVICE = 10,       /* a far object is lost: memory loses none */
     FAR_DAMAGED = 11,      /* a far object has another length: in memory none has */
     FAR_EPOCHS_SPENT = 13, /* 2^62 rounds were made */
-    FAR_CLOSED = 20,       /* the worker isn't open */
+    FAR_CLOSED = 20,       /* the worker or the map isn't open */
     FAR_OPEN = 21,         /* it is open already */
     FAR_OBJECTS = 22,      /* a worker has at most 2^32 objects */
-    FAR_NEAR = 23          /* too few bytes near for so many objects: far_least_near tells how many would do */
+    FAR_NEAR = 23,         /* too few bytes near for so many objects: far_least_near tells how many would do */
+    FAR_NO_KEY = 24,       /* the map has no such key */
+    FAR_SHORT = 25,        /* a buffer has too little room: lengths are set */
+    FAR_END = 26           /* no entry is left to be told */
 };
 
 /* A status in words, which are there as long as the program; for no status "no status". */
@@ -120,6 +130,66 @@ int32_t far_statistics(struct far_worker *worker, struct far_statistics *statist
 
 /* sizeof(struct far_worker) of the library, for other languages to compare. */
 size_t far_worker_size(void);
+
+/* What a map is to have. An entry's bytes are its key's, its value's, and two: with at most 4,088 it is one object, and otherwise its value is cut into parts of
+ * 4,088 bytes, and its key lies near with some 100 bytes, and 4 for each part. */
+struct far_map_plan {
+    uint64_t near_bytes;      /* bytes near for entries of at most 4,088 bytes: as far_least_near of the two below, at least; some 40 an entry come on top */
+    uint64_t entries;         /* how many of them there will be at a time, up to 2^32, and one more where one is put anew */
+    uint64_t long_near_bytes; /* bytes near for parts of longer values: far_least_near of long_parts and 4,088, at least */
+    uint64_t long_parts;      /* how many parts there will be, up to 2^32 */
+    uint64_t seed;            /* with more_seed 16 bytes for the hash of keys: where others choose keys, at random, and told to nobody */
+    uint64_t more_seed;
+    uint16_t typical;         /* how many bytes most entries of at most 4,088 bytes have */
+};
+
+/* Opens an empty map. FAR_OPEN; then FAR_LENGTH, FAR_OBJECTS, FAR_NEAR as far_open_memory, of the entries, and then of the long parts; FAR_MEMORY. No other. */
+int32_t far_map_open_memory(struct far_map *map, const struct far_map_plan *plan);
+
+/* Closes a map: its entries are gone, and all memory is given back. FAR_CLOSED: it wasn't open. */
+int32_t far_map_close(struct far_map *map);
+
+/* Gives a key of at most 4,086 bytes a value of any length, none too, in place of the one that it had. That one goes last, so the new one needs room. No entry is
+ * left to be told by far_map_next then, whatever it answers; the same holds of far_map_remove and far_map_clear.
+ *
+ * FAR_CLOSED; FAR_LENGTH, exactly where the key is longer; FAR_NO_POINTER: there are as many entries, or parts, as the plan says or a few more; FAR_NO_ROOM,
+ * FAR_EPOCHS_SPENT, FAR_MEMORY; FAR_DEVICE. No other. */
+int32_t far_map_put(struct far_map *map, const uint8_t *key, size_t key_len, const uint8_t *value, size_t value_len);
+
+/* Reads a key's value to out, and how many bytes it has to len.
+ *
+ * FAR_CLOSED; FAR_NO_KEY, exactly where there is none, if no other comes; FAR_SHORT, exactly where out has too little room: nothing is written there, and len
+ * says how much would do; FAR_MEMORY: there is none to read a long value to; FAR_NO_ROOM, FAR_EPOCHS_SPENT, FAR_DEVICE. No other. */
+int32_t far_map_get(struct far_map *map, const uint8_t *key, size_t key_len, uint8_t *out, size_t room, size_t *len);
+
+/* Takes a key and its value out. FAR_CLOSED; FAR_NO_KEY, exactly where there is none, if no other comes; FAR_NO_ROOM, FAR_EPOCHS_SPENT, FAR_MEMORY, FAR_DEVICE. */
+int32_t far_map_remove(struct far_map *map, const uint8_t *key, size_t key_len);
+
+/* FAR_OK where there is such a key, FAR_NO_KEY where there is none, if no other comes. FAR_CLOSED; FAR_NO_ROOM, FAR_EPOCHS_SPENT, FAR_MEMORY, FAR_DEVICE. */
+int32_t far_map_holds(struct far_map *map, const uint8_t *key, size_t key_len);
+
+/* How many entries there are. FAR_CLOSED. */
+int32_t far_map_length(struct far_map *map, size_t *len);
+
+/* Drops all entries. FAR_CLOSED. */
+int32_t far_map_clear(struct far_map *map);
+
+/* From now on far_map_next is to tell all entries. Until the next put, removal or clear the keys of longer values lie near twice. FAR_CLOSED; FAR_MEMORY: as many
+ * are left to be told as before. */
+int32_t far_map_begin(struct far_map *map);
+
+/* Tells an entry that wasn't told since far_map_begin: its key, its value, and how many bytes each has. Each is told once, in no order that is told; other calls
+ * than those that end it may come between.
+ *
+ * FAR_CLOSED; FAR_END: each was told, or none was to be; FAR_SHORT: key or value has too little room, only the lengths are set, and the next call tells the same
+ * entry; FAR_MEMORY, FAR_NO_ROOM, FAR_EPOCHS_SPENT, FAR_DEVICE: the next call tells it. No other. */
+int32_t far_map_next(struct far_map *map, uint8_t *key, size_t key_room, size_t *key_len, uint8_t *value, size_t value_room, size_t *value_len);
+
+/* What the map has: of entries of at most 4,088 bytes, and of the parts of longer values. FAR_CLOSED. What it tells isn't proved. */
+int32_t far_map_statistics(struct far_map *map, struct far_statistics *entries, struct far_statistics *long_parts);
+
+/* sizeof(struct far_map) of the library. */
+size_t far_map_size(void);
 
 #ifdef __cplusplus
 }

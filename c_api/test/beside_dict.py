@@ -1,4 +1,4 @@
-"""A worker's calls at random beside a dict of bytes.
+"""A worker's and a FarDict's calls at random beside dicts of bytes.
 
     beside_dict.py [CALLS]"""
 import random
@@ -46,10 +46,40 @@ def play(calls: int) -> None:
     refused(far.Closed, worker.close)
 
 
+def play_dict(calls: int) -> None:
+    chance = random.Random(7)
+    with far.FarDict(1 << 18, 3000, 64, long_parts=1000) as told:
+        kept = {}
+        for _ in range(calls):
+            key, what = b"%d" % chance.randrange(2500), chance.random()
+            if what < 0.35:
+                told[key] = kept[key] = chance.randbytes(chance.choice((0, 20, 300, 300, 9000 if what < 0.01 else 40)))
+            elif what < 0.8:
+                assert told.get(key) == kept.get(key) and (key in told) == (key in kept)
+            elif key in kept:
+                assert told[key] == kept.pop(key)
+                del told[key]
+            else:
+                refused(KeyError, told.__delitem__, key)
+                refused(KeyError, told.__getitem__, key)
+        assert len(told) == len(kept) and all(told[key] == value for key, value in kept.items())
+        assert sorted(told.items()) == sorted(kept.items()) and sorted(told) == sorted(kept)
+        assert all(told[key] == kept[key] and key in told and len(told) == len(kept) for key in told)
+        walk = told.items()
+        next(walk)
+        told[b"one more"] = b""
+        refused(RuntimeError, walk.__next__)
+        refused(far.Length, told.__setitem__, bytes(4087), b"")
+        told.clear()
+        assert len(told) == 0 and told.statistics()[0].near_objects == 0
+    refused(far.Closed, told.get, b"x")
+
+
 def main() -> None:
     calls = int(sys.argv[1]) if len(sys.argv) > 1 else 100_000
     refused(far.Near, far.Worker, far.least_near(3000, 64) - 1, 3000, 64)
     play(calls)
+    play_dict(calls)
 
 
 main()

@@ -28,7 +28,7 @@ static void test_free(void *at) {
 #undef realloc
 #undef free
 
-enum { OBJECTS = 1200, NEAR = 1 << 16 };
+enum { OBJECTS = 1200, KEYS = 1200, LONG = 9000, NEAR = 1 << 16 };
 
 #define CHECK(holds)                                                                                              \
     do {                                                                                                          \
@@ -67,11 +67,40 @@ static void play(void) {
     CHECK(far_close(&worker) == FAR_OK && live == 0);
 }
 
-int main(void) {
+/* The same of a map, with a long value each 100 keys. */
+static void play_map(void) {
+    static const struct far_map_plan PLAN = {NEAR, KEYS, NEAR, KEYS, 3, 5, 64};
+    static uint8_t value[LONG], out[LONG];
+    struct far_map map = FAR_MAP_NONE;
+    size_t len = 0;
+    asked = 0;
+    TWICE(far_map_open_memory(&map, &PLAN));
+    for (uint32_t k = 0; k < KEYS; k++) {
+        memset(value, (int)(k % 251), sizeof value);
+        TWICE(far_map_put(&map, (const uint8_t *)&k, sizeof k, value, k % 100 == 0 ? LONG : 100));
+    }
+    for (uint32_t k = 0; k < KEYS; k++) {
+        memset(value, (int)(k % 251), sizeof value);
+        TWICE(far_map_get(&map, (const uint8_t *)&k, sizeof k, out, sizeof out, &len));
+        CHECK(len == (k % 100 == 0 ? LONG : 100) && memcmp(value, out, len) == 0);
+    }
+    for (uint32_t k = 0; k < KEYS; k += 50) TWICE(far_map_remove(&map, (const uint8_t *)&k, sizeof k));
+    CHECK(far_map_length(&map, &len) == FAR_OK && len == KEYS - KEYS / 50);
+    CHECK(far_map_close(&map) == FAR_OK && live == 0);
+}
+
+/* Plays with each growth refused in turn. */
+static void refuse_each(void (*play_once)(void)) {
+    refused = 0;
     do {
         refused++;
-        play();
+        play_once();
     } while (asked >= refused);
     CHECK(refused > 20);
+}
+
+int main(void) {
+    refuse_each(play);
+    refuse_each(play_map);
     return 0;
 }

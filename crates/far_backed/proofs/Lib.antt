@@ -1,2 +1,3 @@
 mod Given
 mod Numbers
+mod Opening

@@ -1,7 +1,9 @@
-//! A worker over memory, a type without parameters, whose objects are named by numbers of 64 bits.
+//! A worker and a map over memory, types without parameters. Objects are named by numbers of 64 bits.
 #![tactic(auto)]
 
 mod backed;
+mod map;
 mod named;
 
 pub use backed::Backed;
+pub use map::BackedMap;

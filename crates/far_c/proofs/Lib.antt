@@ -1,2 +1,4 @@
 mod AsBox
+mod AsBoxMap
 mod Statuses
+mod Telling

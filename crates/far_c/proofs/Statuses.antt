@@ -1,5 +1,5 @@
--- No refusal has the number of what was done.
-use Rattle.std.proofs.Common.{◌≡◌, ◌≢◌, ◌<◌, ℕ, ℤ, pos, negsuc, sym, ap, ◌∙◌, arith}
+-- No refusal has the number of what was done, or of what no refusal says.
+use Rattle.std.proofs.Common.{◌≡◌, ◌≢◌, ◌<◌, ◌≤◌, ℕ, ℤ, pos, negsuc, sym, ap, ◌∙◌, arith}
 use Rattle.far_word.specs.declared.refused.Refused.{Refused}
 use Rattle.far_word.specs.declared.refused.Refused.TheVariants.{Memory, NoRoom, NoPointer, Length, Closed, AlreadyOpen, NotHeld, Range, Held, Device, Damaged, Phase, EpochsSpent, Marked, Shape, Syntax, BadChoice, StillOpen}
 use Rattle.far_word.specs.Refused.{refusal_number}
@@ -30,3 +30,27 @@ nat_of (negsuc n) = 0
 
 pub is_refused : (why : Refused) (status : ℤ) → status ≡ pos (refusal_number why) → status ≢ pos 0
 is_refused why status told done = let none : refusal_number why ≡ 0 = ap nat_of (sym told ∙ done) in omega (arith, positive why, none)
+
+below : (why : Refused) → refusal_number why < 20
+below Memory = omega arith
+below NoRoom = omega arith
+below NoPointer = omega arith
+below Length = omega arith
+below Closed = omega arith
+below AlreadyOpen = omega arith
+below NotHeld = omega arith
+below Range = omega arith
+below Held = omega arith
+below Device = omega arith
+below Damaged = omega arith
+below Phase = omega arith
+below EpochsSpent = omega arith
+below (Marked word) = omega arith
+below Shape = omega arith
+below (Syntax line) = omega arith
+below (BadChoice log) = omega arith
+below (StillOpen mutator epoch) = omega arith
+
+-- the statuses from 20 on are no refusal's
+pub is_below : (why : Refused) (n : ℕ) (status : ℤ) → status ≡ pos (refusal_number why) → 20 ≤ n → status ≢ pos n
+is_below why n status told high same = let e : refusal_number why ≡ n = ap nat_of (sym told ∙ same) in omega (arith, below why, e, high)

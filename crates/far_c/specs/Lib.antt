@@ -1,2 +1,4 @@
 pub mod Sealed
+pub mod SealedMap
 pub mod Told
+pub mod Telling

@@ -2,10 +2,12 @@
 use Rattle.std.specs.Prelude.{◌≡◌, ◌⊎◌, ℤ, pos}
 use Rattle.far_word.specs.declared.refused.Refused.{Refused}
 use Rattle.far_word.specs.Refused.{refusal_number}
+use Rattle.far_word.specs.declared.sizes.TheConstants.{LONGEST}
 use Rattle.far_pool.specs.Plans.{IsUnplanned}
 use Rattle.far_pool.specs.declared.plan.Plan.{Plan}
 use Rattle.far_pool.specs.declared.plan.Unplanned.{Unplanned}
 use Rattle.far_pool.specs.declared.plan.Unplanned.TheVariants.{Length, Near, Objects}
+use Rattle.far_c.specs.declared.map_opening.FarMapPlan.{FarMapPlan}
 
 -- a status is the number of a refusal that came for this cause
 abbrev pub IsToldBy : (Refused → Type 0) → ℤ → Type 0
@@ -24,3 +26,14 @@ IsUnlaid plan status = (why : Unplanned) × (status ≡ unplanned_number why) ×
 -- why a worker wasn't opened: memory was refused, or its plan can't be laid out
 abbrev pub IsWhyShut : Plan → ℤ → Type 0
 IsWhyShut plan status = (status ≡ pos 1) ⊎ IsUnlaid plan status
+
+-- the plans of a map's two workers: of the entries that an object has room for, and of the others' values, whose objects have 4,088 bytes
+abbrev pub short_plan : FarMapPlan → Plan
+short_plan p = record { near = p.near; objects = p.entries; typical = p.typical }
+
+abbrev pub long_plan : FarMapPlan → Plan
+long_plan p = record { near = p.long_near; objects = p.long_parts; typical = LONGEST }
+
+-- why a map wasn't opened: memory was refused, or a plan of its workers can't be laid out
+abbrev pub IsWhyNoMap : Plan → Plan → ℤ → Type 0
+IsWhyNoMap short long status = (status ≡ pos 1) ⊎ (IsUnlaid short status ⊎ IsUnlaid long status)

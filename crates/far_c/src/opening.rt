@@ -21,7 +21,7 @@ use std::alloc::Global;
 const MOST_OBJECTS: u64 = 4_294_967_296;
 
 // The layout of a plan, or its status.
-fn laid(near: u64, objects: u64, typical: u16) -> Result<Layout, i32>
+pub(crate) fn laid(near: u64, objects: u64, typical: u16) -> Result<Layout, i32>
     ensures laid { IfOk result (IsLaid record { near = near; objects = objects; typical = typical }) }
     ensures refused { IfErr result (λ status. status ≢ FAR_OK) }
     ensures why { IfErr result (IsUnlaid record { near = near; objects = objects; typical = typical }) }

@@ -29,11 +29,23 @@ pub const FAR_OBJECTS: i32 = 22;
 /// There is no room near for so many objects.
 pub const FAR_NEAR: i32 = 23;
 
+/// The map has no such key.
+pub const FAR_NO_KEY: i32 = 24;
+
+/// There is no room for so many bytes where they were to go.
+pub const FAR_SHORT: i32 = 25;
+
+/// No entry is left to be told.
+pub const FAR_END: i32 = 26;
+
 // The status of a refusal.
-#[tactic(auto, using(crate::proofs::Statuses::is_refused))]
+#[tactic(auto, using(crate::proofs::Statuses::is_refused, crate::proofs::Statuses::is_below))]
 pub(crate) fn status_of(why: Refused) -> i32
     ensures number { result ≡ pos (refusal_number why) }
     ensures refused { result ≢ FAR_OK }
+    ensures there { result ≢ FAR_NO_KEY }
+    ensures roomy { result ≢ FAR_SHORT }
+    ensures more { result ≢ FAR_END }
 {
     why.number() as i32
 }
