@@ -141,6 +141,7 @@ pub struct Statistics {
     pub far_bytes: u64,
     pub accesses: u64,
     pub fetches: u64,
+    pub looks: u64,
     pub evictions: u64,
     pub writes_spared: u64,
     pub moves: u64,
