@@ -22,15 +22,15 @@ module _ (k v : ℕ) (key value : List ℕ) (new : List Entry) where
       (of_key, of_value, ap (λ n. take n key) of_key ∙ so.0, ap (λ n. take n value) of_value ∙ so.1, so.2)
 
   past : (m n : ℕ) → (nat_le k m && nat_le v n) ≡ false → (m < k) ⊎ (n < v)
-  past m n no = omega (arith, no)
+  past m n less = omega (arith, less)
 
   pub told_short : (rest : List Entry) → Tells rest (Some (k, v)) key value new → (nat_le k (length key) && nat_le v (length value)) ≡ false → KeepsFirst rest k v (length key) (length value) new
-  told_short [] told no = absurd (not_some (k, v) told.0)
-  told_short (e ∷ es) told no =
+  told_short [] told less = absurd (not_some (k, v) told.0)
+  told_short (e ∷ es) told less =
       let is = same_pair (k, v) (length e.0, length e.1) told.0 in
       let of_key : k ≡ length e.0 = ap (λ p. p.0) is in
       let of_value : v ≡ length e.1 = ap (λ p. p.1) is in
-      (of_key, of_value, past (length key) (length value) no, told.2 ((λ i. nat_le (sym of_key i) (length key) && nat_le (sym of_value i) (length value)) ∙ no))
+      (of_key, of_value, past (length key) (length value) less, told.2 ((λ i. nat_le (sym of_key i) (length key) && nat_le (sym of_value i) (length value)) ∙ less))
 
 pub told_none : (rest : List Entry) (key value : List ℕ) (new : List Entry) → Tells rest None key value new → (rest ≡ []) × (new ≡ [])
 told_none [] key value new told = (refl, told.1)
