@@ -1,11 +1,10 @@
 #!/usr/bin/env python3
-"""Makes docs/API.md: what a program may name of the crates that it uses, each with its comment and its contract.
+"""Prints what a program may name of the crates that it uses, each with its comment and its contract, as a page.
 
-usage: api.py [--check]     --check writes nothing, and ends with 1 where the page isn't as the sources have it
+usage: api.py >FILE
 """
 import pathlib
 import re
-import sys
 
 TOP = pathlib.Path(__file__).resolve().parent.parent
 CRATES = ("far_pool", "far_map", "far_dict", "far_array", "far_large", "far_private", "far_heap", "far_file", "far_objects")
@@ -13,7 +12,7 @@ HEAD = """# What a program may call
 
 Of each crate the types, calls and clauses that another crate sees, made from the sources by scripts/api.py. `ensures` says what holds after
 a call, `requires` what has to hold before it; `OnOk`, `OnErr`, `IfOk`, `IfErr` begin what is said of one outcome, `x.old` and `x.new` are
-a value before and after. How to read one: [PROVED](PROVED.md#how-to-read-one-contract).
+a value before and after. How to read a contract: docs/PROVED.md.
 """
 TYPE = re.compile(r"pub (?:struct|enum|trait|const|type) (\w+)")
 CALL = re.compile(r"(?:pub )?(?:const )?fn (\w+)")
@@ -98,7 +97,7 @@ def section(crate: pathlib.Path) -> str:
         for name, call, head, comment in items(path):
             if name in of:
                 of[name].append((call, head, comment))
-    text = f"\n## {crate.name}\n\n[Its page](../crates/{crate.name}).\n"
+    text = f"\n## {crate.name}\n\nIts page: crates/{crate.name}/README.md.\n"
     for name, rows in ((name, rows) for name, rows in of.items() if rows):
         rows.sort(key=lambda row: row[0] != "")
         text += f"\n### {name}\n"
@@ -108,15 +107,9 @@ def section(crate: pathlib.Path) -> str:
     return text
 
 
-def main() -> int:
-    page, text = TOP / "docs" / "API.md", HEAD + "".join(section(TOP / "crates" / name) for name in CRATES)
-    if sys.argv[1:] != ["--check"]:
-        page.write_text(text)
-    elif not page.exists() or page.read_text() != text:
-        print("api: docs/API.md isn't as the sources have it: call scripts/api.py", file=sys.stderr)
-        return 1
-    return 0
+def main() -> None:
+    print(HEAD + "".join(section(TOP / "crates" / name) for name in CRATES), end="")
 
 
 if __name__ == "__main__":
-    sys.exit(main())
+    main()

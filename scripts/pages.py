@@ -10,7 +10,7 @@ usage: pages.py [--readme] [PROGRAM]     PROGRAM: a built far_trace; without it 
 - A command after `$ ` in a block that calls far_trace, or draws, is run at the top: the lines beneath it are its output, all of them. The built
   program is run in the place of scripts/far_trace and scripts/try. A command that calls anything but PLAIN, or writes a file, isn't run.
 - A row of a trace in backquotes, with ` / ` for a newline, gives the replies that stand after it, behind 'prints' or 'at last'.
-- The pages, CONTRIBUTING.md, CHANGELOG.md and docs/API.md, which scripts/api.py makes, not counted, have at most 28,000 words, a crate's page at most 70 lines. With --readme: README.md at most 130 lines and 1,400 words, and no line above
+- The pages, CONTRIBUTING.md and CHANGELOG.md not counted, have at most 28,000 words, a crate's page at most 70 lines. With --readme: README.md at most 130 lines and 1,400 words, and no line above
   200 characters outside blocks and the second rows of tables.
 """
 import fnmatch
@@ -189,7 +189,7 @@ def main() -> int:
     readme_too = "--readme" in words
     given = [word for word in words if word != "--readme"]
     program = str(pathlib.Path(given[0]).resolve()) if given else str(TOP / "crates/far_trace/out/far_trace")
-    pages = [TOP / "README.md", TOP / "bench/README.md", *(page for page in sorted(TOP.glob("docs/*.md")) if page.name != "API.md"), *sorted(TOP.glob("crates/*/README.md"))]
+    pages = [TOP / "README.md", TOP / "bench/README.md", *sorted(TOP.glob("docs/*.md")), *sorted(TOP.glob("crates/*/README.md"))]
     others = [TOP / "CONTRIBUTING.md"]
     known = tree()
     named = names_in(known)
