@@ -22,7 +22,9 @@ HERE = os.path.dirname(os.path.abspath(__file__))
 LONGEST = 60
 USAGE = "usage: far_uniq [-m SIZE] [-d FOLDER] [-c] [-s] [-z] [FILE..]\n"
 TEXT = b"b\na\nb\n\nc\r\n\xff\na\n\nlast"
-BAD_WORDS = (["-x"], ["-m"], ["-m", ""], ["-m", "x"], ["-m", "K"], ["-m", "1K2"], ["-m", "-1"], ["-m", "99999999999999999999"], ["-d"], ["-z", "-q", "file"])
+BAD_WORDS = (["-x"], ["-m"], ["-m", ""], ["-m", "x"], ["-m", "K"], ["-m", "1K2"], ["-m", "-1"], ["-m", "99999999999999999999"], ["-d"], ["-d", ""], ["-z", "-q", "file"])
+# 2^64 bytes: more than a number of them tells.
+BAD_WORDS += (["-m", "18446744073709551616"], ["-m", "18014398509481984K"], ["-m", "17592186044416M"], ["-m", "17179869184G"])
 # What a growth that was refused is told as.
 REFUSED = re.compile(r"far_uniq: (no memory; nothing was printed|standard input: line \d+: no memory; -m has room for .*; \d+ lines were printed|no far file: .*; nothing was printed|no memory, after \d+ lines were printed with their counts)\n")
 wrong = []
@@ -98,6 +100,9 @@ def options(program: str) -> None:
     for words in BAD_WORDS:
         came = run(program, *words, text=TEXT)
         expect(f"words {words}", came == (2, b"", USAGE), came)
+    for size in ("18446744073709551615", "18014398509481983K", "17592186044415M", "17179869183G"):
+        came = run(program, "-m", size, text=TEXT)
+        expect(f"-m {size}", came == (1, b"", "far_uniq: too much for this program\n"), came)
     draw = random.Random(7)
     text = b"".join(b"%d%s\n" % (draw.randrange(3000), b"x" * draw.randrange(300)) for _ in range(30_000))
     came = run(program, "-m", "8M", text=text)
@@ -113,10 +118,10 @@ def options(program: str) -> None:
     came = run(program, "-m", "8M", "-c", text=text)
     expect("long lines by chance, counted", came == (0, counts(text), ""), came)
     came = run(program, "-s", text=TEXT)
-    told = re.fullmatch(r"far_uniq: 9 lines came, 6 were new\nfar_uniq: far side: heaps \d+ near 6 far 0 .*\n", came[2])
+    told = re.fullmatch(r"far_uniq: 9 lines came, 6 were new\nfar_uniq: far side: heaps \d+ near 0 far 0 .*\n", came[2])
     expect("what the far side did", came[:2] == (0, firsts(TEXT)) and told is not None, came)
     came = run(program, "-s", "-c", text=TEXT)
-    told = re.fullmatch(r"far_uniq: 9 lines came, 6 were new\nfar_uniq: far side: heaps \d+ near 6 far 0 .*\n", came[2])
+    told = re.fullmatch(r"far_uniq: 9 lines came, 6 were new\nfar_uniq: far side: heaps \d+ near 0 far 0 .*\n", came[2])
     expect("what the far side did for counts", came[:2] == (0, counts(TEXT)) and told is not None, came)
 
 
@@ -131,6 +136,13 @@ def begun(program: str, *words: str):
     return subprocess.Popen([program, *words], stdin=pipe, stdout=pipe, stderr=pipe, env={**os.environ, "TMPDIR": "."}, bufsize=0, preexec_fn=be_interrupted)
 
 
+def had(ran) -> int:
+    """The most memory that a run had; 0 where it has ended."""
+    with open(f"/proc/{ran.pid}/status", encoding="ascii") as file:
+        told = re.search(r"VmHWM:\s+(\d+) kB", file.read())
+    return int(told[1]) * 1024 if told else 0
+
+
 def most_of(program: str, *words: str, text: bytes, wanted: int) -> tuple:
     """What a run printed, so many bytes of it, and the most memory that it had until then."""
     ran = begun(program, *words)
@@ -143,8 +155,7 @@ def most_of(program: str, *words: str, text: bytes, wanted: int) -> tuple:
             break
         printed += piece
     giver.join()
-    with open(f"/proc/{ran.pid}/status", encoding="ascii") as file:
-        most = int(re.search(r"VmHWM:\s+(\d+) kB", file.read())[1]) * 1024
+    most = had(ran)
     ran.stdin.close()
     said = ran.stderr.read().decode()
     printed += ran.stdout.read()
@@ -161,23 +172,25 @@ def counted_memory(program: str) -> None:
     least = int(told[1])
     came = run(program, "-c", "-m", str(least - 1), text=TEXT)
     expect("a byte less than the least memory for counts", came == (1, b"", told[0]), came)
-    for size, lines, long in ((least, 2_048, 40), (8 << 20, 80_000, 25), (8 << 20, 200, 100_000), (8 << 20, 4_000, 4_100)):
+    for size, lines, long in ((least, 16_384, 40), (8 << 20, 80_000, 25), (8 << 20, 200, 100_000), (8 << 20, 4_000, 4_100)):
         text = b"".join(b"%06d a line that is one of many%s\n" % (line, b"." * (long - 25)) for line in range(lines)) * 2
         ran = begun(program, "-c", "-m", str(size))
-        ran.stdin.write(text)
+        try:
+            ran.stdin.write(text)
+        except BrokenPipeError:
+            pass
         ran.stdin.close()
         # (more is to be written than a pipe holds, so it waits)
         printed = os.read(ran.stdout.fileno(), 1_000)
-        with open(f"/proc/{ran.pid}/status", encoding="ascii") as file:
-            most = int(re.search(r"VmHWM:\s+(\d+) kB", file.read())[1]) * 1024
+        most = had(ran)
         printed += ran.stdout.read()
         came = (ran.wait(LONGEST), printed, ran.stderr.read().decode())
         expect(f"{lines} lines counted in {size} bytes", came == (0, counts(text), ""), came)
         if most > size * 1.15:
             wrong.append(f"fail_uniq: -c -m {size}: took {most} bytes")
-    text = b"".join(b"%06d\n" % line for line in range(3_000))
+    text = b"".join(b"%06d\n" % line for line in range(20_000))
     came = run(program, "-c", "-m", str(least), text=text)
-    told = r"far_uniq: standard input: line 2049 would be new beyond 2048, all that -m has room for with -c; nothing was printed\n"
+    told = r"far_uniq: standard input: line 16385 would be new beyond 16384, all that -m has room for with -c; nothing was printed\n"
     expect("more lines than there is room for with counts", came[:2] == (1, b"") and re.fullmatch(told, came[2]) is not None, came)
 
 
@@ -191,16 +204,32 @@ def memory(program: str) -> None:
     least = int(told[1])
     came = run(program, "-m", str(least - 1), text=TEXT)
     expect("a byte less than the least memory", came == (1, b"", told[0]), came)
-    for size, lines, long in ((least, 2_000, 25), (8 << 20, 100_000, 25), (8 << 20, 200, 100_000), (8 << 20, 5_000, 4_100)):
+    for size, lines, long in ((least, 16_000, 25), (8 << 20, 140_000, 25), (4 << 20, 14_000, 512), (8 << 20, 200, 100_000), (8 << 20, 5_000, 4_100)):
         text = b"".join(b"%06d a line that is one of many%s\n" % (line, b"." * (long - 25)) for line in range(lines)) * 2
         came, most = most_of(program, "-m", str(size), text=text, wanted=len(text) // 2)
         expect(f"{lines} lines in {size} bytes", came == (0, firsts(text), ""), came)
         if most > size * 1.15:
             wrong.append(f"fail_uniq: -m {size}: took {most} bytes")
-    text = b"".join(b"%06d\n" % line for line in range(3_000))
+    text = b"".join(b"%06d\n" % line for line in range(20_000))
     came = run(program, "-m", str(least), text=text)
-    told = re.fullmatch(r"far_uniq: standard input: line 2049 would be new beyond 2048, all that -m has room for; they were printed\n", came[2])
-    expect("more lines than there is room for", came[0] == 1 and came[1] == text[: 2048 * 7] and told is not None, came)
+    told = re.fullmatch(r"far_uniq: standard input: line 16385 would be new beyond 16384, all that -m has room for; they were printed\n", came[2])
+    expect("more lines than there is room for", came[0] == 1 and came[1] == text[: 16_384 * 7] and told is not None, came)
+    text = b"".join(b"%06d %s\n" % (line, b"x" * 3_993) for line in range(3_000))
+    for words in ((), ("-c",)):
+        came = run(program, "-m", "4M", *words, text=text)
+        told = re.fullmatch(r"far_uniq: standard input: line (\d+): no memory; -m has room for 16384 lines of up to 511 bytes, and for fewer longer ones; (\d+) lines were printed\n", came[2])
+        lines = 0 if told is None else int(told[1]) - 1
+        printed = 0 if words else lines
+        expect(f"longer lines than there is room for {words}", 1_000 < lines < 3_000 and came[:2] == (1, text[: printed * 4_001]) and told is not None and int(told[2]) == printed, came)
+
+
+def most_lines(program: str) -> None:
+    """As many lines as the page says fit where nothing is said, and one more."""
+    for words, most, said in (((), 1_933_312, "; they were printed"), (("-c",), 1_392_640, " with -c; nothing was printed")):
+        text = b"".join(b"%07d\n" % line for line in range(most + 1))
+        came = run(program, *words, text=text)
+        told = f"far_uniq: standard input: line {most + 1} would be new beyond {most}, all that -m has room for{said}\n"
+        expect(f"a line more than {most}", came == (1, b"" if words else text[:-8], told), came)
 
 
 def faults(program: str, library: str) -> None:
@@ -213,6 +242,10 @@ def faults(program: str, library: str) -> None:
     ):
         came = run(program, *words, text=TEXT)
         expect(f"words {words}", came[:2] == (1, printed) and re.fullmatch(told, came[2]) is not None, came)
+    came = run(program, text=TEXT, TMPDIR="none")
+    expect("a TMPDIR that isn't there", came[:2] == (1, b"") and re.fullmatch(told, came[2]) is not None, came)
+    came = run(program, "-d", ".", text=TEXT, TMPDIR="none")
+    expect("a TMPDIR that isn't there, and a folder that is", came == (0, firsts(TEXT), ""), came)
     long = b"a\nb\n" + b"x" * 131_072 + b"\nc\n"
     came = run(program, "-m", "8M", text=long)
     expect("a long line", came == (0, long, ""), came)
@@ -228,7 +261,7 @@ def faults(program: str, library: str) -> None:
     told = re.fullmatch(r"far_uniq: standard input: line (\d+): no room, as the far file takes nothing more: is its disk full\?; (\d+) lines were printed\n", came[2])
     expect("a far file that is full", came[0] == 1 and text.startswith(came[1]) and told is not None and int(told[2]) == came[1].count(b"\n"), came)
     text = text[: 4 << 20] + b"\n" + text[: 1 << 20]
-    came = run(program, "-m", "4M", text=text, LD_PRELOAD=library, FAIL_CALL="9000")
+    came = run(program, "-m", "4M", text=text, LD_PRELOAD=library, FAIL_CALL="1500")
     told = re.fullmatch(r"far_uniq: standard input: line \d+: .*; \d+ lines were printed\n", came[2])
     expect("a far file that fails once", firsts(text).startswith(came[1]) and (came == (0, firsts(text), "") or (came[0] == 1 and told is not None)), came)
     came = run(program, "-m", "4M", text=text, LD_PRELOAD=library, FAIL_FLIP="3")
@@ -257,11 +290,27 @@ def counted_faults(program: str, library: str) -> None:
     expect("a far file of counts that is full", came[:2] == (1, b"") and re.fullmatch(told, came[2]) is not None, came)
     text = text[: 3 << 20] + b"\n"
     lost = re.compile(r"far_uniq: .*, after (\d+) lines were printed with their counts\n|far_uniq: standard input: line \d+: .*; 0 lines were printed\n")
-    for variable, wanted in ((("FAIL_CALL", "7500"), None), (("FAIL_CALL", "9000"), None), (("FAIL_FLIP", "3"), "gave other bytes")):
+    for variable, wanted in ((("FAIL_CALL", "1000"), None), (("FAIL_CALL", "1500"), None), (("FAIL_FLIP", "3"), "gave other bytes")):
         came = run(program, "-c", "-m", "4M", text=text, LD_PRELOAD=library, **{variable[0]: variable[1]})
         told = lost.fullmatch(came[2])
         right = counts(text).startswith(came[1]) and (came == (0, counts(text), "") or (came[0] == 1 and told is not None and int(told[1] or 0) == came[1].count(b"\n")))
         expect(f"a far file of counts with {variable}", right and (wanted is None or wanted in came[2]), came)
+
+
+def names(program: str) -> None:
+    """Two far files have names that nobody foretells, and nobody else may read them; TMPDIR without a name is the current folder."""
+    seen = set()
+    for variables in ({"TMPDIR": "."}, {"TMPDIR": ""}):
+        ran = subprocess.Popen([program], stdin=subprocess.PIPE, stdout=subprocess.PIPE, env={**os.environ, **variables}, bufsize=0)
+        ran.stdin.write(b"a\n")
+        os.read(ran.stdout.fileno(), 2)
+        for fd in os.scandir(f"/proc/{ran.pid}/fd"):
+            if os.readlink(fd.path).startswith(f"{os.getcwd()}/far_uniq."):
+                seen.add((os.readlink(fd.path), os.stat(fd.path).st_mode & 0o777))
+        ran.stdin.close()
+        ran.wait(LONGEST)
+    if len(seen) != 2 or {mode for _, mode in seen} != {0o600}:
+        wrong.append(f"fail_uniq: far files of two runs: {seen}")
 
 
 def pipes(program: str) -> None:
@@ -330,9 +379,11 @@ def main() -> int:
         options(program)
         memory(program)
         counted_memory(program)
+        most_lines(program)
         faults(program, libraries["fail_file"])
         counted_faults(program, libraries["fail_file"])
         pipes(program)
+        names(program)
         growths(program, libraries["fail_malloc"])
         left = [name for name in os.listdir(".") if name.startswith("far_uniq.")]
         if left:

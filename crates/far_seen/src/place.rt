@@ -16,7 +16,7 @@ use far_word::Refused;
 fn room_of(len: usize) -> usize
     ensures { 0 < result }
 {
-    len / MOST + 5
+    len.saturating_sub(1) / MOST + 5
 }
 
 /// Puts a line that fits an object into one.

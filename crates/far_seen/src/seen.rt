@@ -1,6 +1,6 @@
 //! The set.
 
-ghost use Rattle.std.specs.Prelude.{◌≡◌, ◌<◌, true, not, Err, IfOk, IfErr, OnOk, OnErr, length};
+ghost use Rattle.std.specs.Prelude.{◌≡◌, ◌<◌, ◌+◌, ◌/◌, true, not, Err, IfOk, IfErr, OnOk, OnErr, length};
 ghost use Rattle.std.specs.FinSet as set;
 ghost use Rattle.far_word.specs.declared.refused.Refused.TheVariants.{Length, Memory};
 ghost use Rattle.far_seen.specs.Causes.{IsWhyPut};
@@ -40,7 +40,8 @@ pub const LINES: usize = 48;
 
 /// So many homes that seven eighths of them are these.
 pub fn homes(lines: usize) -> usize
-    ensures { 0 < result }
+    ensures some { 0 < result }
+    ensures room { result < 18446744073709551615 → lines + result / 8 < result }
 {
     lines.saturating_add(lines / 7).saturating_add(2)
 }

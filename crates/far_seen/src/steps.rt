@@ -1,6 +1,6 @@
 //! Steps on the parts of a set.
 
-ghost use Rattle.std.specs.Prelude.{◌≡◌, ◌<◌, ℕ, true, Some, IfOk, IfErr, OnOk, OnErr, ◌⊎◌, length};
+ghost use Rattle.std.specs.Prelude.{◌≡◌, ◌<◌, ◌+◌, ◌/◌, ℕ, true, Some, IfOk, IfErr, OnOk, OnErr, ◌⊎◌, length};
 ghost use Rattle.std.specs.Bool.{Decides};
 ghost use Rattle.std.specs.FinSet as set;
 ghost use Rattle.far_objects.specs.Far.{Far};
@@ -89,6 +89,7 @@ fn twice(buckets: usize) -> usize
 /// Makes the index anew where seven eighths of its homes are taken: twice as large. If there is no memory for it, the old one goes on.
 #[inline(always)]
 pub fn make_roomy(alloc: Global, near: &mut Near)
+    ensures few { near.old.count + near.old.buckets / 8 < near.old.buckets → near.new ≡ near.old }
     ensures sound { (f : Far) → Sound (plain f near.old) → Sound (plain f near.new) }
     ensures same { (f : Far) → Sound (plain f near.old) → lines_of (plain f near.new) ≡ lines_of (plain f near.old) }
     ensures kept { (j t h : ℕ) → slot_at near.old.slots j ≡ Slot.Full t h → (i : ℕ) × (slot_at near.new.slots i ≡ Slot.Full t h) }

@@ -70,6 +70,9 @@ fn take_word(asked: &mut Asked, rt: &HostRuntime, next: Next, word: &str) -> Res
             Ok(Next::Any)
         }
         Next::Folder => {
+            if word.is_empty() {
+                return Err(Fault::Usage);
+            }
             asked.folder = Some(String::from_str(rt.alloc(), word).map_err(|_| Fault::Memory)?);
             Ok(Next::Any)
         }

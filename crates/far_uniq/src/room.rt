@@ -13,17 +13,21 @@ use std::{env, fs};
 /// Bytes beside objects, index and heaps: what is read and written at once, and the program itself.
 const BESIDE: u64 = 3_145_728;
 
-/// Bytes near that a line takes, wherever it lies: 24 of its heap, 12 of the index.
-const LINE: u64 = 36;
+/// How many lines of up to 511 bytes lie in one object; of longer ones fewer do.
+const TOGETHER: u64 = 8;
+
+/// Bytes near that a line takes, wherever it lies: 12 of the index, and an eighth of what its object takes, 24 of its heap and 40 of where lines
+/// lie in it.
+const LINE: u64 = 20;
 
 /// And those that it takes where lines are counted: 4 for what stands for it, 8 for its count.
 const COUNT: u64 = 12;
 
-/// Bytes of logs for each line that there may be.
+/// Bytes for lines that lie near, for each line that there may be.
 const LOGS: u64 = 12;
 
-/// How many objects a heap has at most.
-const HEAP: u64 = 2_048;
+/// How many lines a heap has at most.
+const HEAP: u64 = 2_048 * TOGETHER;
 
 /// The least memory: for one heap, and the line that is read.
 const LEAST: u64 = (BESIDE + HEAP * (LINE + LOGS)) * 32 / 31 + 1;
@@ -36,12 +40,14 @@ pub struct Room {
     pub layout: Layout,
     /// How many different lines there may be.
     pub lines: usize,
+    /// In how many far objects they may lie.
+    pub blocks: usize,
     /// How many bytes a line may have.
     pub longest: usize,
 }
 
-/// A 32nd of the memory is for the line that is read, and what is written of it. A quarter of the rest is for lines that lie near, the
-/// rest is for what each line takes.
+/// A 32nd of the memory is for the line that is read, and what is written of it. The rest is for what each line takes, and for lines that lie
+/// near.
 pub fn room_in(near: u64, counts: bool) -> Result<Room, Fault> {
     if counts {
         room_for(near, LINE + COUNT, LEAST_COUNTED)
@@ -63,27 +69,35 @@ fn room_for(near: u64, line: u64, least: u64) -> Result<Room, Fault>
     let lines = shared / (line + LOGS) / HEAP * HEAP;
     let plan = Plan {
         near: shared - lines * line,
-        objects: lines,
-        typical: 64,
+        objects: lines / TOGETHER,
+        typical: 512,
     };
     match plan.lay_out() {
         Ok(layout) => Ok(Room {
             layout,
             lines: lines as usize,
+            blocks: (lines / TOGETHER) as usize,
             longest: longest as usize,
         }),
         Err(_) => Err(Fault::Large),
     }
 }
 
+// TMPDIR, if it has a name, else the current folder.
+fn temporary(rt: &HostRuntime) -> Result<String, Fault> {
+    if let Ok(folder) = env::var(rt, "TMPDIR") {
+        if !folder.is_empty() {
+            return Ok(folder);
+        }
+    }
+    String::from_str(rt.alloc(), ".").map_err(|_| Fault::Memory)
+}
+
 /// A new file, which nobody else may read; its name is taken away at once.
 pub fn open_far(rt: &HostRuntime, words: &Asked, seed: &[u8; 16]) -> Result<File, Fault> {
     let folder = match &words.folder {
         Some(folder) => String::from_str(rt.alloc(), folder.as_str()).map_err(|_| Fault::Memory)?,
-        None => match env::var(rt, "TMPDIR") {
-            Ok(folder) => folder,
-            Err(_) => String::from_str(rt.alloc(), ".").map_err(|_| Fault::Memory)?,
-        },
+        None => temporary(rt)?,
     };
     let name = format!(in rt.alloc(); "{folder}/far_uniq.{:016x}", word(seed)).map_err(
         |_| Fault::Memory,

@@ -3,6 +3,7 @@
 ghost use Rattle.std.specs.Prelude.{◌≡◌, true, IfOk, IfSome, OnErr};
 ghost use Rattle.far_private.specs.Heap.{IsOutside};
 ghost use Rattle.far_private.specs.Numbered.{IsNoPlace};
+ghost use Rattle.far_packed.specs.Causes.{OrMemory};
 ghost use Rattle.far_firsts.specs.Causes.{Refuses};
 ghost use Rattle.far_firsts.specs.Tallies.{TellsCounts};
 ghost use Rattle.far_firsts.specs.Telling.{Tells};
@@ -11,6 +12,7 @@ use crate::apart::Apart;
 use crate::room::Room;
 use far_device::Device;
 use far_firsts::{Counted, End, count_lines, uniq};
+use far_packed::Packed;
 use far_pool::{MakeDevice, Worker, WorkerStatistics};
 use far_seen::{Seen, Tally};
 use far_word::Refused;
@@ -40,7 +42,7 @@ pub fn print_firsts<D: Device + Drop, M: MakeDevice<D> + Drop, R: Read, W: Write
     output: &mut W,
 ) -> Result<Printed, Refused>
     requires { honest ≡ true → M.honest ≡ true }
-    ensures printed { IfOk result (λ p. IfSome (R.remaining input.old) (λ text. Tells room.now.longest (Refuses IsNoPlace IsOutside honest) honest end p.end.lines p.end.why text (R.remaining input.new) (W.contents output.old) (W.contents output.new))) }
+    ensures printed { IfOk result (λ p. IfSome (R.remaining input.old) (λ text. Tells room.now.longest (Refuses (OrMemory IsNoPlace) IsOutside honest) honest end p.end.lines p.end.why text (R.remaining input.new) (W.contents output.old) (W.contents output.new))) }
     ensures input { OnErr result (R.remaining input.new ≡ R.remaining input.old) }
     ensures output { OnErr result (W.contents output.new ≡ W.contents output.old) }
 {
@@ -48,13 +50,17 @@ pub fn print_firsts<D: Device + Drop, M: MakeDevice<D> + Drop, R: Read, W: Write
         Ok(worker) => worker,
         Err(why) => return Err(why),
     };
-    let mut seen = match Seen::with_room(alloc, worker, seed, room.lines) {
+    let packed = match Packed::with_room(alloc, worker, room.blocks) {
+        Ok(packed) => packed,
+        Err(why) => return Err(why),
+    };
+    let mut seen = match Seen::with_room(alloc, packed, seed, room.lines) {
         Ok(seen) => seen,
         Err(why) => return Err(why),
     };
     let end = uniq(alloc, &mut seen, end, room.longest, input, output);
     let lines = seen.len();
-    let far = seen.worker().statistics();
+    let far = seen.worker().worker().statistics();
     Ok(Printed { end, lines, far })
 }
 
@@ -79,7 +85,7 @@ pub fn print_counts<D: Device + Drop, M: MakeDevice<D> + Drop, R: Read, W: Write
     output: &mut W,
 ) -> Result<PrintedCounts, Refused>
     requires { honest ≡ true → M.honest ≡ true }
-    ensures printed { IfOk result (λ p. IfSome (R.remaining input.old) (λ text. TellsCounts room.now.longest (Refuses IsNoPlace IsOutside honest) honest end p.counted.lines p.counted.ending text (R.remaining input.new) (W.contents output.old) (W.contents output.new))) }
+    ensures printed { IfOk result (λ p. IfSome (R.remaining input.old) (λ text. TellsCounts room.now.longest (Refuses (OrMemory IsNoPlace) IsOutside honest) honest end p.counted.lines p.counted.ending text (R.remaining input.new) (W.contents output.old) (W.contents output.new))) }
     ensures input { OnErr result (R.remaining input.new ≡ R.remaining input.old) }
     ensures output { OnErr result (W.contents output.new ≡ W.contents output.old) }
 {
@@ -87,13 +93,17 @@ pub fn print_counts<D: Device + Drop, M: MakeDevice<D> + Drop, R: Read, W: Write
         Ok(worker) => worker,
         Err(why) => return Err(why),
     };
-    let mut tally = match Tally::with_room(alloc, Apart::new(worker), seed, room.lines) {
+    let packed = match Packed::with_room(alloc, Apart::new(worker), room.blocks) {
+        Ok(packed) => packed,
+        Err(why) => return Err(why),
+    };
+    let mut tally = match Tally::with_room(alloc, packed, seed, room.lines) {
         Ok(tally) => tally,
         Err(why) => return Err(why),
     };
     let counted = count_lines(alloc, &mut tally, end, room.longest, input, output);
     let lines = tally.len();
-    let far = tally.worker().worker().statistics();
+    let far = tally.worker().worker().worker().statistics();
     Ok(PrintedCounts {
         counted,
         lines,

@@ -113,7 +113,7 @@ pub fn tell(rt: &HostRuntime, fault: &Fault, input: Option<&str>) -> ExitCode {
         Fault::File(e) => eprintln!(rt; "far_uniq: no far file: {e}; nothing was printed"),
         Fault::Start(why) => eprintln!(rt; "far_uniq: {}; nothing was printed", cause(why)),
         Fault::NoMemory(at, lines, printed) => eprintln!(rt;
-            "far_uniq: {file}: line {at}: no memory; -m has room for {lines} lines of up to 4088 bytes, and for fewer longer ones; {printed} lines were printed"
+            "far_uniq: {file}: line {at}: no memory; -m has room for {lines} lines of up to 511 bytes, and for fewer longer ones; {printed} lines were printed"
         ),
         Fault::Long(at, longest, printed) => eprintln!(rt;
             "far_uniq: {file}: line {at} has more than {longest} bytes, a 64th of -m; {printed} lines were printed"

@@ -10,11 +10,11 @@ invariant_of-result g c =
     let f = g.O.Objects.far c.args.worker in
     let p : Plain = record { far = with_longs f c.new-longs.result.items; seed = c.seeded.result; slots = c.in-Ok.slots; buckets = c.homes-buckets.result; count = 0 } in (
       none_stored f c.new-longs.result.items c.new-longs.ensures.items,
-      begins_sound p c.slots_for.result c.homes-buckets.ensures c.slots_for.ensures c.in-Ok.ensures refl,
+      begins_sound p c.slots_for.result c.homes-buckets.ensures.some c.slots_for.ensures c.in-Ok.ensures refl,
     )
 
 pub returns-clause-empty : goal.returns-clause-empty
 returns-clause-empty g c =
     let f = g.O.Objects.far c.args.worker in
     let p : Plain = record { far = with_longs f c.new-longs.result.items; seed = c.seeded.result; slots = c.in-Ok.slots; buckets = c.homes-buckets.result; count = 0 } in
-    begins_empty p c.slots_for.result c.homes-buckets.ensures c.slots_for.ensures c.in-Ok.ensures refl
+    begins_empty p c.slots_for.result c.homes-buckets.ensures.some c.slots_for.ensures c.in-Ok.ensures refl

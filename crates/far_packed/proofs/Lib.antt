@@ -1,0 +1,5 @@
+pub mod Values
+pub mod Tables
+pub mod Pieces
+pub mod Reached
+pub mod Whys

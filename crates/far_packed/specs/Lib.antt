@@ -1,0 +1,3 @@
+pub mod Blocks
+pub mod Causes
+pub mod Law
