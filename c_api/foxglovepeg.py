@@ -1,4 +1,4 @@
-"""Foxglovepeg for Python: objects of 1 to 4,088 bytes behind handles that no stale copy can misuse, and dicts of bytes, some near, the others packed in memory.
+"""Foxglovepeg for Python: objects of 1 to 4,088 bytes behind handles that no stale copy can misuse, and dicts of bytes, some near, the others packed in memory, or in a file.
 
     with Worker(near=1 << 26, objects=1_000_000, typical=64) as worker:
         handle = worker.alloc(b"hello")
@@ -10,6 +10,8 @@
         words[b"fig"] = b"a fruit"
         assert b"fig" in words and len(words) == 1
         del words[b"fig"]
+
+With folder="/var/tmp", far=1 << 30 the others lie in a file there, of so many bytes, which has no name; foxglovepeg.h tells how many it takes, and what then holds.
 
 A worker or a dict is one thread's. libfoxglovepeg.so lies beside this file, or where FOXGLOVEPEG says. PyDLL, not CDLL: no other thread runs during a call.
 """
@@ -27,7 +29,7 @@ class Refused(Exception):
 
 STATUSES = {
     1: ("OutOfMemory", "out of memory"),
-    2: ("NoRoom", "nothing near can leave: memory is refused"),
+    2: ("NoRoom", "nothing near can leave: memory is refused, or the far side is full"),
     3: ("NoPointer", "each heap has its 2,048 objects"),
     4: ("Length", "an object has 1 to 4,088 bytes; a key at most 4,086"),
     7: ("NotHeld", "there is no such object"),
@@ -42,6 +44,8 @@ STATUSES = {
     24: ("NoKey", "there is no such key"),
     25: ("Short", "a buffer has too little room"),
     26: ("End", "no entry is left to be told"),
+    27: ("File", "the system refused the file"),
+    28: ("Far", "too few bytes far for so many heaps"),
 }
 BY_STATUS = {status: type(name, (Refused,), {"status": status, "__doc__": words}) for status, (name, words) in STATUSES.items()}
 globals().update({kind.__name__: kind for kind in BY_STATUS.values()})
@@ -70,21 +74,26 @@ class Statistics(c.Structure):
         return "Statistics(" + ", ".join(f"{word}={getattr(self, word)}" for word, _ in self._fields_) + ")"
 
 
-_lib = c.PyDLL(os.environ.get("FOXGLOVEPEG") or str(pathlib.Path(__file__).resolve().parent / "libfoxglovepeg.so"))
+_lib = c.PyDLL(os.environ.get("FOXGLOVEPEG") or str(pathlib.Path(__file__).resolve().parent / "libfoxglovepeg.so"), use_errno=True)
 _WORKER, _MAP, _U64, _SIZE = c.POINTER(_Worker), c.POINTER(_Map), c.POINTER(c.c_uint64), c.POINTER(c.c_size_t)
 _ARGUMENTS = {
     "far_open_memory": [_WORKER, c.c_uint64, c.c_uint64, c.c_uint16],
+    "far_open_folder": [_WORKER, c.c_uint64, c.c_uint64, c.c_uint16, c.c_char_p, c.c_uint64],
+    "far_trim": [_WORKER],
     "far_close": [_WORKER],
     "far_least_near": [c.c_uint64, c.c_uint16, _U64],
     "far_alloc": [_WORKER, c.c_char_p, c.c_size_t, c.c_uint8, _U64],
     "far_read": [_WORKER, c.c_uint64, c.c_size_t, c.c_char_p, c.c_size_t],
     "far_write": [_WORKER, c.c_uint64, c.c_size_t, c.c_char_p, c.c_size_t],
+    "far_exchange": [_WORKER, c.c_uint64, c.c_size_t, c.c_char_p, c.c_size_t],
     "far_drop": [_WORKER, c.c_uint64],
     "far_length": [_WORKER, c.c_uint64, c.POINTER(c.c_uint16)],
     "far_holds": [_WORKER, c.c_uint64],
     "far_add_heap": [_WORKER],
     "far_statistics": [_WORKER, c.POINTER(Statistics)],
     "far_map_open_memory": [_MAP, c.POINTER(_MapPlan)],
+    "far_map_open_folder": [_MAP, c.POINTER(_MapPlan), c.c_char_p, c.c_uint64, c.c_uint64],
+    "far_map_trim": [_MAP],
     "far_map_close": [_MAP],
     "far_map_put": [_MAP, c.c_char_p, c.c_size_t, c.c_char_p, c.c_size_t],
     "far_map_get": [_MAP, c.c_char_p, c.c_size_t, c.c_char_p, c.c_size_t, _SIZE],
@@ -108,6 +117,8 @@ _put, _get, _remove, _next = _lib.far_map_put, _lib.far_map_get, _lib.far_map_re
 
 
 def _done(status: int) -> None:
+    if status == 27:
+        raise BY_STATUS[27](f"{BY_STATUS[27].__doc__}: {os.strerror(c.get_errno())}")
     if status:
         raise BY_STATUS[status](BY_STATUS[status].__doc__)
 
@@ -119,20 +130,12 @@ def least_near(objects: int, typical: int) -> int:
     return told.value
 
 
-class Worker:
-    """Objects of 1 to 4,088 bytes by handle: `near` bytes of them as they are, the others packed.
+class _Held:
+    """What is open until it is closed, at the end of a `with`, or where it goes."""
 
-    `objects` is how many there will be, up to 2**32; `typical`, how many bytes most of them have."""
+    _close = _trim = None
 
-    def __init__(self, near: int, objects: int, typical: int):
-        self._held = _Worker()
-        self._at = c.byref(self._held)
-        self._buffer = c.create_string_buffer(4088)
-        self._number, self._short = c.c_uint64(), c.c_uint16()
-        self._number_at, self._short_at = c.byref(self._number), c.byref(self._short)
-        _done(_lib.far_open_memory(self._at, near, objects, typical))
-
-    def __enter__(self) -> "Worker":
+    def __enter__(self):
         return self
 
     def __exit__(self, *_) -> None:
@@ -144,8 +147,31 @@ class Worker:
             self.close()
 
     def close(self) -> None:
-        """The objects are gone, and the memory is given back."""
-        _done(_lib.far_close(self._at))
+        """All that it has is gone, and the memory is given back."""
+        _done(self._close(self._at))
+
+    def trim(self) -> None:
+        """Gives back memory that has what a file has too: to be called now and then."""
+        _done(self._trim(self._at))
+
+
+class Worker(_Held):
+    """Objects of 1 to 4,088 bytes by handle: `near` bytes of them as they are, the others packed, or in a file of `far` bytes in `folder`.
+
+    `objects` is how many there will be, up to 2**32; `typical`, how many bytes most of them have."""
+
+    _close, _trim = _lib.far_close, _lib.far_trim
+
+    def __init__(self, near: int, objects: int, typical: int, folder: "str | os.PathLike | None" = None, far: int = 0):
+        self._held = _Worker()
+        self._at = c.byref(self._held)
+        self._buffer = c.create_string_buffer(4088)
+        self._number, self._short = c.c_uint64(), c.c_uint16()
+        self._number_at, self._short_at = c.byref(self._number), c.byref(self._short)
+        if folder is None:
+            _done(_lib.far_open_memory(self._at, near, objects, typical))
+        else:
+            _done(_lib.far_open_folder(self._at, near, objects, typical, os.fsencode(folder), far))
 
     def alloc(self, data: bytes, structure: int = 0) -> int:
         """A new object of these bytes: its handle. `structure` is a number of the program's own choice, 0 to 255."""
@@ -170,6 +196,14 @@ class Worker:
         status = _write(self._at, handle, start, data, len(data))
         if status:
             _done(status)
+
+    def exchange(self, handle: int, start: int, data: bytes) -> bytes:
+        """Writes bytes over those of an object, from `start` on, and gives back those that were there."""
+        other = c.create_string_buffer(data, len(data) or 1)
+        status = _lib.far_exchange(self._at, handle, start, other, len(data))
+        if status:
+            _done(status)
+        return other.raw
 
     def drop(self, handle: int) -> None:
         """The object is gone, and its handle is refused from then on."""
@@ -197,13 +231,26 @@ class Worker:
         return all_
 
 
-class FarDict:
-    """A dict from bytes to bytes: `near` bytes of its entries as they are, the others packed. A key has at most 4,086 bytes.
+class FarDict(_Held):
+    """A dict from bytes to bytes: `near` bytes of its entries as they are, the others packed, or in a file in `folder`: `far` bytes of it, and `long_far` for parts of long values. A key has at
+    most 4,086 bytes.
 
     `entries` is how many of at most 4,086 bytes there will be, key and value together; `typical`, how many bytes most of them have. Values of longer ones are
     cut into parts of 4,088 bytes: `long_parts` of them, `long_near` bytes of which lie near, or as few as will do."""
 
-    def __init__(self, near: int, entries: int, typical: int, long_parts: int = 2048, long_near: "int | None" = None):
+    _close, _trim = _lib.far_map_close, _lib.far_map_trim
+
+    def __init__(
+        self,
+        near: int,
+        entries: int,
+        typical: int,
+        long_parts: int = 2048,
+        long_near: "int | None" = None,
+        folder: "str | os.PathLike | None" = None,
+        far: int = 0,
+        long_far: int = 1 << 24,
+    ):
         self._held = _Map()
         self._at = c.byref(self._held)
         self._buffer, self._key = c.create_string_buffer(4088), c.create_string_buffer(4086)
@@ -213,22 +260,10 @@ class FarDict:
         seed = os.urandom(16)
         words = near, entries, least_near(long_parts, 4088) if long_near is None else long_near, long_parts
         plan = _MapPlan(*words, int.from_bytes(seed[:8], "little"), int.from_bytes(seed[8:], "little"), typical)
-        _done(_lib.far_map_open_memory(self._at, c.byref(plan)))
-
-    def __enter__(self) -> "FarDict":
-        return self
-
-    def __exit__(self, *_) -> None:
-        if self._held.live:
-            self.close()
-
-    def __del__(self) -> None:
-        if getattr(self, "_held", None) is not None and self._held.live:
-            self.close()
-
-    def close(self) -> None:
-        """The entries are gone, and the memory is given back."""
-        _done(_lib.far_map_close(self._at))
+        if folder is None:
+            _done(_lib.far_map_open_memory(self._at, c.byref(plan)))
+        else:
+            _done(_lib.far_map_open_folder(self._at, c.byref(plan), os.fsencode(folder), far, long_far))
 
     def get(self, key: bytes, default: "bytes | None" = None) -> "bytes | None":
         """The value of a key, or `default`."""

@@ -1,6 +1,6 @@
-/* A cache of records by number: a table of handles, and the records behind them, some near, the others packed.
+/* A cache of records by number: a table of handles, and the records behind them, some near, the others packed, or in a file of a folder.
  *
- *     cache [RECORDS [NEAR]]     asks for records at random, and tells how many had to be made, and how many were unpacked */
+ *     cache [RECORDS [NEAR [FOLDER]]]     asks for records at random, and tells how many had to be made, and how many came from the far side */
 #include "foxglovepeg.h"
 
 #include <inttypes.h>
@@ -37,7 +37,11 @@ int main(int count, char **words) {
     uint64_t records = count > 1 ? strtoull(words[1], NULL, 10) : 100000, near_bytes = count > 2 ? strtoull(words[2], NULL, 10) : 4194304;
     struct cache cache = {FAR_WORKER_NONE, calloc(records, sizeof(uint64_t)), 0};
     if (cache.handles == NULL || records == 0) return 1;
-    int32_t status = far_open_memory(&cache.worker, near_bytes, records, RECORD);
+    /* a record takes 256 bytes in a file, and a heap of 2,048 of them 16 KiB besides; some room more, since heaps fill unevenly */
+    uint32_t heaps = 0;
+    int32_t status = far_heaps(near_bytes, records, RECORD, &heaps);
+    if (status == FAR_OK && count > 3) status = far_open_folder(&cache.worker, near_bytes, records, RECORD, words[3], records * 256 + heaps * UINT64_C(65536));
+    else if (status == FAR_OK) status = far_open_memory(&cache.worker, near_bytes, records, RECORD);
     for (uint64_t k = 0, word = 1; status == FAR_OK && k < 3 * records; k++) {
         uint8_t record[RECORD], wanted[RECORD];
         word = word * UINT64_C(6364136223846793005) + 1442695040888963407;
@@ -49,7 +53,7 @@ int main(int count, char **words) {
     struct far_statistics all = {0};
     if (status == FAR_OK) status = far_statistics(&cache.worker, &all);
     if (status != FAR_OK) fprintf(stderr, "cache: %s\n", far_status_text(status));
-    else printf("%" PRIu64 " records asked for, %" PRIu64 " made, %" PRIu64 " were unpacked\n", 3 * records, cache.made, all.fetches);
+    else printf("%" PRIu64 " records asked for, %" PRIu64 " made, %" PRIu64 " came from the far side\n", 3 * records, cache.made, all.fetches + all.looks);
     far_close(&cache.worker);
     free(cache.handles);
     return status;

@@ -1,7 +1,14 @@
-/* Foxglovepeg 2.0 for C and C++: objects of 1 to 4,088 bytes behind handles that no stale copy can misuse, and maps from bytes to bytes, in as many bytes near
- * as you say, the rest packed in memory. There is no file yet.
+/* Foxglovepeg 2.1 for C and C++: objects of 1 to 4,088 bytes behind handles that no stale copy can misuse, and maps from bytes to bytes, in as many bytes near
+ * as you say, the rest packed in memory, or in a file.
  *
- * Each function but what c_api/support.c has is proved. What C owes: a `struct far_worker` or `struct far_map` is all zero, or as the last call left it; none
+ * A file, before you take one: all of its bytes are taken from the disk when it is opened, so that a full disk is a status then (FAR_FILE), and no call fails for it
+ * later, unless the file system writes elsewhere than it took (btrfs, ZFS). It is memory that a file is mapped to: where its medium fails, somebody cuts it, or such a
+ * file system is full, the program gets SIGBUS. What it has may all be resident until far_trim
+ * gives that back. Nothing of it outlives the worker or the map. After fork() the child has none of it, and may only close. Where it may pass RLIMIT_FSIZE, ignore
+ * SIGXFSZ. At most 1,024 are open.
+ *
+ * Each function but far_status_text, far_open_file, far_open_folder, far_trim and the same of a map, which are in c_api/support.c, is proved. What C owes: a
+ * `struct far_worker` or `struct far_map` is all zero, or as the last call left it; none
  * that is open is copied; one call at a time has it; no two arguments of a call overlap, unless it writes to neither; no pointer is NULL, also where its length is 0. Then no call aborts,
  * whatever the numbers are: a handle that is stale, made up, or another worker's, a length that doesn't fit, a second close, a call of a worker or a map
  * that isn't open are answered by a status.
@@ -9,7 +16,7 @@
  * Threads: a worker and a map stay on the thread that opened them. Several threads have some each. No call waits, takes a lock, or starts a thread. No
  * call may come from a signal handler.
  *
- * Memory: all of it is malloc's, and closing gives it back. No call keeps a pointer that it was given. */
+ * Memory: all of it is malloc's, or a file's, and closing gives it back. No call keeps a pointer that it was given. */
 #ifndef FOXGLOVEPEG_H
 #define FOXGLOVEPEG_H
 
@@ -18,7 +25,7 @@
 #include <stdint.h>
 
 #define FOXGLOVEPEG_VERSION_MAJOR 2
-#define FOXGLOVEPEG_VERSION_MINOR 0
+#define FOXGLOVEPEG_VERSION_MINOR 1
 
 #ifdef __cplusplus
 extern "C" {
@@ -42,7 +49,7 @@ struct far_map {
 enum far_status {
     FAR_OK = 0,
     FAR_MEMORY = 1,        /* malloc refused memory */
-    FAR_NO_ROOM = 2,       /* nothing near can leave: malloc refused memory for it */
+    FAR_NO_ROOM = 2,       /* nothing near can leave: malloc refused memory for it, or the far side is full */
     FAR_NO_POINTER = 3,    /* each heap has its 2,048 objects: far_add_heap makes room for more; or there are 2,097,152 heaps */
     FAR_LENGTH = 4,        /* an object has 1 to 4,088 bytes; a key at most 4,086 */
     FAR_NOT_HELD = 7,      /* the worker has no such object: it was dropped, or never was */
@@ -56,7 +63,9 @@ enum far_status {
     FAR_NEAR = 23,         /* too few bytes near for so many objects: far_least_near tells how many would do */
     FAR_NO_KEY = 24,       /* the map has no such key */
     FAR_SHORT = 25,        /* a buffer has too little room: lengths are set */
-    FAR_END = 26           /* no entry is left to be told */
+    FAR_END = 26,          /* no entry is left to be told */
+    FAR_FILE = 27,         /* the system refused a file, or room for it: errno tells why */
+    FAR_FAR = 28           /* too few bytes far: 32,768 a heap, and far_heaps tells how many heaps there are */
 };
 
 /* A status in words, which are there as long as the program; for no status "no status". */
@@ -65,19 +74,19 @@ const char *far_status_text(int32_t status);
 /* What a worker has, and what it has done since it was opened. */
 struct far_statistics {
     uint64_t near_objects;  /* objects in memory */
-    uint64_t far_objects;   /* objects packed in memory */
+    uint64_t far_objects;   /* objects that aren't: packed there, or in a file */
     uint64_t live;          /* bytes near that objects take, each with a header of 8, in whole words */
     uint64_t dead;          /* bytes near that nothing needs, until a round gives them back */
     uint64_t unused;        /* bytes near that were not taken yet */
-    uint64_t far_bytes;     /* bytes of the objects packed in memory */
+    uint64_t far_bytes;     /* bytes of these */
     uint64_t accesses;      /* reads and writes, refused ones too */
     uint64_t fetches;       /* objects that were brought near */
     uint64_t looks;         /* reads of far objects where these lie, also those that failed */
     uint64_t evictions;     /* objects that went far */
-    uint64_t writes_spared; /* those of them that were packed with these bytes already */
+    uint64_t writes_spared; /* those of them that were there with these bytes already */
     uint64_t moves;         /* objects that went to another place near */
     uint64_t rounds;        /* rounds that were made */
-    uint64_t device_faults; /* packings that failed */
+    uint64_t device_faults; /* objects for which there was no room */
     uint32_t heaps;         /* heaps of 2,048 objects at most */
 };
 
@@ -88,6 +97,27 @@ struct far_statistics {
  *
  * FAR_OPEN: it is open already. Then, in this order, FAR_LENGTH, FAR_OBJECTS, FAR_NEAR, exactly as the numbers are; FAR_MEMORY. No other. */
 int32_t far_open_memory(struct far_worker *worker, uint64_t near_bytes, uint64_t objects, uint16_t typical);
+
+/* The same, with far objects in `far_heap_bytes` bytes a heap, all of which malloc gives now. Of these 16 KiB stay empty; the others are pieces of 16 KiB for objects
+ * of one size each: an object has the smallest of 64, 128, .. 4,096 bytes with room for it. Where a heap has no more of them, nothing leaves it: FAR_NO_ROOM.
+ * Those that far_add_heap adds have as many. */
+int32_t far_open_reserved(struct far_worker *worker, uint64_t near_bytes, uint64_t objects, uint16_t typical, size_t far_heap_bytes);
+
+/* How many heaps a worker has that is opened so. FAR_LENGTH, FAR_OBJECTS, FAR_NEAR, as there; no other. */
+int32_t far_heaps(uint64_t near_bytes, uint64_t objects, uint16_t typical, uint32_t *heaps);
+
+/* The same in a file: `far_bytes` bytes of it, an equal part for each heap, in whole pages. fd is open for reading and writing, of a file that nobody else uses; once the
+ * call is back, it may be closed. What the file had is written over; a refused call may leave it longer. Heaps that far_add_heap adds have as much of malloc's instead.
+ *
+ * As far_open_memory, and FAR_FAR; FAR_FILE: the file has no room (ENOSPC, EDQUOT, EFBIG), or can't be mapped, or 1,024 are open (EMFILE). */
+int32_t far_open_file(struct far_worker *worker, uint64_t near_bytes, uint64_t objects, uint16_t typical, int fd, uint64_t far_bytes);
+
+/* The same in a file of a folder, mode 0600, which has no name: it is gone with the worker, also where the program is killed. */
+int32_t far_open_folder(struct far_worker *worker, uint64_t near_bytes, uint64_t objects, uint16_t typical, const char *folder, uint64_t far_bytes);
+
+/* Gives back memory that has what the file of far_open_file or far_open_folder has, all of which may be resident at last: what is asked for then comes from the system's
+ * cache, or the file. Call it now and then. FAR_CLOSED. */
+int32_t far_trim(const struct far_worker *worker);
 
 /* Closes a worker: its objects are gone, and all memory is given back. FAR_CLOSED: it wasn't open. */
 int32_t far_close(struct far_worker *worker);
@@ -112,6 +142,10 @@ int32_t far_read(struct far_worker *worker, uint64_t handle, size_t from, uint8_
 
 /* Writes len bytes over those of an object, from byte `from` on. Refused as far_read is. */
 int32_t far_write(struct far_worker *worker, uint64_t handle, size_t from, const uint8_t *bytes, size_t len);
+
+/* Writes len bytes over those of an object, from byte `from` on, and gives back in `bytes` those that were there: a read and a write. Refused as these are, and
+ * FAR_MEMORY where there is none for len bytes; then `bytes` is as it was. */
+int32_t far_exchange(struct far_worker *worker, uint64_t handle, size_t from, uint8_t *bytes, size_t len);
 
 /* Drops an object: its handle is refused from then on, until its pointer was given 65,536 times more. FAR_CLOSED; FAR_NOT_HELD. */
 int32_t far_drop(struct far_worker *worker, uint64_t handle);
@@ -145,6 +179,16 @@ struct far_map_plan {
 
 /* Opens an empty map. FAR_OPEN; then FAR_LENGTH, FAR_OBJECTS, FAR_NEAR as far_open_memory, of the entries, and then of the long parts; FAR_MEMORY. No other. */
 int32_t far_map_open_memory(struct far_map *map, const struct far_map_plan *plan);
+
+/* The same, with far entries as far_open_reserved has objects: so many bytes a heap of entries, and so many a heap of long parts. */
+int32_t far_map_open_reserved(struct far_map *map, const struct far_map_plan *plan, size_t far_heap_bytes, size_t long_far_heap_bytes);
+
+/* The same in a file, or a folder, as far_open_file and far_open_folder: so many bytes for entries, and behind them for long parts. */
+int32_t far_map_open_file(struct far_map *map, const struct far_map_plan *plan, int fd, uint64_t far_bytes, uint64_t long_far_bytes);
+int32_t far_map_open_folder(struct far_map *map, const struct far_map_plan *plan, const char *folder, uint64_t far_bytes, uint64_t long_far_bytes);
+
+/* As far_trim. */
+int32_t far_map_trim(const struct far_map *map);
 
 /* Closes a map: its entries are gone, and all memory is given back. FAR_CLOSED: it wasn't open. */
 int32_t far_map_close(struct far_map *map);

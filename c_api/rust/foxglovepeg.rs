@@ -1,11 +1,15 @@
 //! Foxglovepeg for Rust: objects of 1 to 4,088 bytes behind handles that no stale copy can misuse, and maps from bytes to bytes, some near, the others packed in
-//! memory. `foxglovepeg.h` tells each call; here what C owes is seen to: a worker and a map are closed where they go, can't be copied, and stay on their thread.
+//! memory, or in a file. `foxglovepeg.h` tells each call; here what C owes is seen to: a worker and a map are closed where they go, can't be copied, and stay on their thread.
 //! It isn't proved.
 
+use std::ffi::CString;
 use std::fmt;
+use std::os::unix::ffi::OsStrExt;
+use std::path::Path;
 
 mod raw {
     use super::Statistics;
+    use std::ffi::c_char;
 
     #[repr(C)]
     pub struct Held {
@@ -27,18 +31,23 @@ mod raw {
 
     extern "C" {
         pub fn far_open_memory(worker: *mut Held, near_bytes: u64, objects: u64, typical: u16) -> i32;
+        pub fn far_open_folder(worker: *mut Held, near_bytes: u64, objects: u64, typical: u16, folder: *const c_char, far_bytes: u64) -> i32;
+        pub fn far_trim(worker: *const Held) -> i32;
         pub fn far_close(worker: *mut Held) -> i32;
         pub fn far_least_near(objects: u64, typical: u16, bytes: *mut u64) -> i32;
         pub fn far_alloc(worker: *mut Held, bytes: *const u8, len: usize, structure: u8, handle: *mut u64) -> i32;
         pub fn far_alloc_zeros(worker: *mut Held, len: u16, structure: u8, handle: *mut u64) -> i32;
         pub fn far_read(worker: *mut Held, handle: u64, from: usize, out: *mut u8, len: usize) -> i32;
         pub fn far_write(worker: *mut Held, handle: u64, from: usize, bytes: *const u8, len: usize) -> i32;
+        pub fn far_exchange(worker: *mut Held, handle: u64, from: usize, bytes: *mut u8, len: usize) -> i32;
         pub fn far_drop(worker: *mut Held, handle: u64) -> i32;
         pub fn far_length(worker: *mut Held, handle: u64, len: *mut u16) -> i32;
         pub fn far_holds(worker: *mut Held, handle: u64) -> i32;
         pub fn far_add_heap(worker: *mut Held) -> i32;
         pub fn far_statistics(worker: *mut Held, statistics: *mut Statistics) -> i32;
         pub fn far_map_open_memory(map: *mut Held, plan: *const Plan) -> i32;
+        pub fn far_map_open_folder(map: *mut Held, plan: *const Plan, folder: *const c_char, far_bytes: u64, long_far_bytes: u64) -> i32;
+        pub fn far_map_trim(map: *const Held) -> i32;
         pub fn far_map_close(map: *mut Held) -> i32;
         pub fn far_map_put(map: *mut Held, key: *const u8, key_len: usize, value: *const u8, value_len: usize) -> i32;
         pub fn far_map_get(map: *mut Held, key: *const u8, key_len: usize, out: *mut u8, room: usize, len: *mut usize) -> i32;
@@ -93,7 +102,7 @@ macro_rules! errors {
 
 errors! {
     Memory = 1, "out of memory";
-    NoRoom = 2, "nothing near can leave: memory is refused";
+    NoRoom = 2, "nothing near can leave: memory is refused, or the far side is full";
     NoPointer = 3, "each heap has its 2,048 objects";
     Length = 4, "an object has 1 to 4,088 bytes; a key at most 4,086";
     NotHeld = 7, "there is no such object";
@@ -105,6 +114,8 @@ errors! {
     Open = 21, "it is open already";
     Objects = 22, "a worker has at most 2^32 objects";
     Near = 23, "too few bytes near for so many objects";
+    File = 27, "the system refused the file";
+    Far = 28, "too few bytes far for so many heaps";
 }
 
 impl std::error::Error for Error {}
@@ -161,6 +172,11 @@ pub fn least_near(objects: u64, typical: u16) -> Result<u64, Error> {
     Ok(bytes)
 }
 
+/// A folder as C has it; one with a byte 0 is no folder.
+fn path_of(folder: &Path) -> Result<CString, Error> {
+    CString::new(folder.as_os_str().as_bytes()).map_err(|_| Error::File)
+}
+
 /// Objects of 1 to 4,088 bytes by handle.
 pub struct Worker(raw::Held);
 
@@ -169,6 +185,18 @@ impl Worker {
         let mut held = raw::NONE;
         done(unsafe { raw::far_open_memory(&mut held, near_bytes, objects, typical) })?;
         Ok(Worker(held))
+    }
+
+    /// Far objects lie in a file of a folder, without a name, of so many bytes. After [`Error::File`] `std::io::Error::last_os_error()` tells why.
+    pub fn in_folder(near_bytes: u64, objects: u64, typical: u16, folder: &Path, far_bytes: u64) -> Result<Worker, Error> {
+        let (mut held, path) = (raw::NONE, path_of(folder)?);
+        done(unsafe { raw::far_open_folder(&mut held, near_bytes, objects, typical, path.as_ptr(), far_bytes) })?;
+        Ok(Worker(held))
+    }
+
+    /// Gives back memory that has what the file has too: to be called now and then.
+    pub fn trim(&mut self) {
+        unsafe { raw::far_trim(&self.0) };
     }
 
     pub fn alloc(&mut self, bytes: &[u8], structure: u8) -> Result<Handle, Error> {
@@ -189,6 +217,11 @@ impl Worker {
 
     pub fn write(&mut self, handle: Handle, from: usize, bytes: &[u8]) -> Result<(), Error> {
         done(unsafe { raw::far_write(&mut self.0, handle.0, from, bytes.as_ptr(), bytes.len()) })
+    }
+
+    /// Writes bytes, and gives back in their place those that were there.
+    pub fn exchange(&mut self, handle: Handle, from: usize, bytes: &mut [u8]) -> Result<(), Error> {
+        done(unsafe { raw::far_exchange(&mut self.0, handle.0, from, bytes.as_mut_ptr(), bytes.len()) })
     }
 
     pub fn drop_object(&mut self, handle: Handle) -> Result<(), Error> {
@@ -235,16 +268,33 @@ pub struct MapPlan {
     pub seed: [u64; 2],
 }
 
+impl MapPlan {
+    fn raw(self) -> raw::Plan {
+        let MapPlan { near_bytes, entries, typical, long_near_bytes, long_parts, seed } = self;
+        raw::Plan { near_bytes, entries, long_near_bytes, long_parts, seed, typical }
+    }
+}
+
 /// A map from bytes to bytes.
 pub struct Map(raw::Held);
 
 impl Map {
     pub fn in_memory(plan: MapPlan) -> Result<Map, Error> {
-        let MapPlan { near_bytes, entries, typical, long_near_bytes, long_parts, seed } = plan;
-        let plan = raw::Plan { near_bytes, entries, long_near_bytes, long_parts, seed, typical };
         let mut held = raw::NONE;
-        done(unsafe { raw::far_map_open_memory(&mut held, &plan) })?;
+        done(unsafe { raw::far_map_open_memory(&mut held, &plan.raw()) })?;
         Ok(Map(held))
+    }
+
+    /// Far entries lie in a file of a folder, as [`Worker::in_folder`] has objects: so many bytes for entries, and so many for parts of long values.
+    pub fn in_folder(plan: MapPlan, folder: &Path, far_bytes: u64, long_far_bytes: u64) -> Result<Map, Error> {
+        let (mut held, path) = (raw::NONE, path_of(folder)?);
+        done(unsafe { raw::far_map_open_folder(&mut held, &plan.raw(), path.as_ptr(), far_bytes, long_far_bytes) })?;
+        Ok(Map(held))
+    }
+
+    /// Gives back memory that has what the file has too: to be called now and then.
+    pub fn trim(&mut self) {
+        unsafe { raw::far_map_trim(&self.0) };
     }
 
     pub fn put(&mut self, key: &[u8], value: &[u8]) -> Result<(), Error> {

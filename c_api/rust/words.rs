@@ -2,10 +2,11 @@
 
 use foxglovepeg::{least_near, Error, Map, MapPlan, Worker};
 use std::collections::HashMap;
+use std::path::Path;
 
 const WORDS: u64 = 5_000;
 
-fn count() -> Result<(), Error> {
+fn count(folder: Option<&Path>) -> Result<(), Error> {
     let plan = MapPlan {
         near_bytes: 1 << 18,
         entries: WORDS,
@@ -14,7 +15,10 @@ fn count() -> Result<(), Error> {
         long_parts: 8,
         seed: [3, 5],
     };
-    let mut map = Map::in_memory(plan)?;
+    let mut map = match folder {
+        Some(folder) => Map::in_folder(plan, folder, 1 << 24, 1 << 20)?,
+        None => Map::in_memory(plan)?,
+    };
     let mut beside: HashMap<Vec<u8>, u64> = HashMap::new();
     let (mut word, mut out) = (1u64, Vec::new());
     for _ in 0..20 * WORDS {
@@ -41,21 +45,26 @@ fn count() -> Result<(), Error> {
     Ok(())
 }
 
-fn handles() -> Result<(), Error> {
-    let mut worker = Worker::in_memory(1 << 17, 1000, 64)?;
+fn handles(folder: &Path) -> Result<(), Error> {
+    let mut worker = Worker::in_folder(1 << 17, 1000, 64, folder, 1 << 20)?;
     let handle = worker.alloc(b"hello", 1)?;
-    worker.write(handle, 0, b"J")?;
+    let mut bytes = *b"J";
+    worker.exchange(handle, 0, &mut bytes)?;
+    worker.trim();
     let mut out = [0; 5];
     worker.read(handle, 0, &mut out)?;
-    assert!(&out == b"Jello");
+    assert!(&out == b"Jello" && &bytes == b"h");
     worker.drop_object(handle)?;
     assert_eq!(worker.read(handle, 0, &mut out), Err(Error::NotHeld));
     assert_eq!(worker.len_of(handle), None);
     assert!(matches!(Worker::in_memory(1, 1, 64), Err(Error::Near)));
+    assert!(matches!(Worker::in_folder(1 << 17, 1000, 64, Path::new("/no/such/folder"), 1 << 20), Err(Error::File)));
     Ok(())
 }
 
 fn main() -> Result<(), Error> {
-    count()?;
-    handles()
+    let folder = std::env::temp_dir();
+    count(None)?;
+    count(Some(&folder))?;
+    handles(&folder)
 }

@@ -3,6 +3,7 @@
     beside_dict.py [CALLS]"""
 import random
 import sys
+import tempfile
 
 import foxglovepeg as far
 
@@ -15,9 +16,9 @@ def refused(kind, call, *words) -> None:
     raise AssertionError(f"{call.__name__}{words} was not refused {kind.__name__}")
 
 
-def play(calls: int) -> None:
+def play(calls: int, **place) -> None:
     chance = random.Random(5)
-    with far.Worker(1 << 18, 3000, 64) as worker:
+    with far.Worker(1 << 18, 3000, 64, **place) as worker:
         kept, stale = {}, []
         for _ in range(calls):
             what = chance.random()
@@ -35,7 +36,11 @@ def play(calls: int) -> None:
                 continue
             at = chance.randrange(len(data))
             part = chance.randbytes(len(data) - at)
-            worker.write(handle, at, part)
+            if what < 0.75:
+                worker.write(handle, at, part)
+            else:
+                assert worker.exchange(handle, at, part) == data[at:]
+                worker.trim()
             kept[handle] = data[:at] + part
             refused(far.Range, worker.write, handle, at + 1, part)
         assert not any(handle in worker for handle in stale if handle not in kept)
@@ -46,9 +51,9 @@ def play(calls: int) -> None:
     refused(far.Closed, worker.close)
 
 
-def play_dict(calls: int) -> None:
+def play_dict(calls: int, **place) -> None:
     chance = random.Random(7)
-    with far.FarDict(1 << 18, 3000, 64, long_parts=1000) as told:
+    with far.FarDict(1 << 18, 3000, 64, long_parts=1000, **place) as told:
         kept = {}
         for _ in range(calls):
             key, what = b"%d" % chance.randrange(2500), chance.random()
@@ -78,8 +83,11 @@ def play_dict(calls: int) -> None:
 def main() -> None:
     calls = int(sys.argv[1]) if len(sys.argv) > 1 else 100_000
     refused(far.Near, far.Worker, far.least_near(3000, 64) - 1, 3000, 64)
-    play(calls)
-    play_dict(calls)
+    refused(far.File, far.Worker, 1 << 18, 3000, 64, "/no/such/folder", 1 << 26)
+    refused(far.Far, far.Worker, 1 << 18, 3000, 64, tempfile.gettempdir(), 1)
+    for place in {}, {"folder": tempfile.gettempdir(), "far": 1 << 26}:
+        play(calls, **place)
+        play_dict(calls, **place)
 
 
 main()

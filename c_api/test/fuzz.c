@@ -1,8 +1,8 @@
 /* Calls in any order of several workers and maps: before they are opened, after they are closed, opened or closed twice; with handles that are stale, another
  * worker's, or made up; with lengths that don't fit. Each answer is known to a model.
  *
- *     fuzz CALLS SEED */
-#include "foxglovepeg.h"
+ *     fuzz CALLS PLACE SEED     PLACE: memory, reserved, file, or a folder */
+#include "drawn.h"
 
 #include <inttypes.h>
 #include <stdio.h>
@@ -38,6 +38,7 @@ static struct worker workers[WORKERS];
 static struct map maps[MAPS];
 static uint8_t bytes[ROOM], out[ROOM];
 static uint64_t calls, seed, last;
+static const char *place = "memory";
 
 #define CHECK(holds)                                                                           \
     do {                                                                                       \
@@ -47,12 +48,7 @@ static uint64_t calls, seed, last;
         }                                                                                      \
     } while (0)
 
-static uint64_t next(void) {
-    uint64_t word = seed += UINT64_C(0x9e3779b97f4a7c15);
-    word = (word ^ (word >> 30)) * UINT64_C(0xbf58476d1ce4e5b9);
-    word = (word ^ (word >> 27)) * UINT64_C(0x94d049bb133111eb);
-    return word ^ (word >> 31);
-}
+static uint64_t next(void) { return drawn(&seed); }
 
 static uint64_t below(uint64_t most) { return next() % most; }
 
@@ -107,7 +103,7 @@ static void begin(struct worker *worker) {
     uint16_t typical = (uint16_t)below(70);
     uint64_t objects = below(50) ? 100 : UINT64_MAX - below(3), near_bytes = below(50) ? NEAR : below(4096);
     int32_t wanted = worker->open ? FAR_OPEN : typical == 0 ? FAR_LENGTH : objects > 100 ? FAR_OBJECTS : near_bytes < NEAR ? FAR_NEAR : FAR_OK;
-    CHECK(far_open_memory(&worker->held, near_bytes, objects, typical) == wanted);
+    CHECK(open_in(place, &worker->held, near_bytes, objects, typical) == wanted);
     if (wanted != FAR_OK) return;
     worker->open = true;
     worker->heaps = 1;
@@ -145,7 +141,7 @@ static void drop(struct worker *worker, uint64_t handle) {
     CHECK(far_drop(&worker->held, handle) == FAR_NOT_HELD);
 }
 
-/* Reads or writes a range that fits or doesn't. */
+/* Reads, writes or exchanges a range that fits or doesn't. */
 static void reach(struct worker *worker, uint64_t handle) {
     struct bytes *object = object_of(worker, handle);
     size_t all = object != NULL ? object->len : below(100), odd = below(16);
@@ -160,7 +156,8 @@ static void reach(struct worker *worker, uint64_t handle) {
         if (wanted == FAR_OK) CHECK(memcmp(out, object->at + from, len) == 0);
         return;
     }
-    CHECK(far_write(&worker->held, handle, from, bytes, len) == wanted);
+    CHECK((what == 2 ? far_write(&worker->held, handle, from, bytes, len) : far_exchange(&worker->held, handle, from, out, len)) == wanted);
+    if (what == 3) CHECK(memcmp(out, wanted == FAR_OK ? object->at + from : bytes, len) == 0);
     if (wanted == FAR_OK) memcpy(object->at + from, bytes, len);
 }
 
@@ -204,7 +201,7 @@ static void begin_map(struct map *map) {
     struct far_map_plan plan = {NEAR, KEYS, NEAR, KEYS, next(), next(), (uint16_t)below(70)};
     if (below(50) == 0) plan.long_near_bytes = below(4096);
     int32_t wanted = map->open ? FAR_OPEN : plan.typical == 0 ? FAR_LENGTH : plan.long_near_bytes < NEAR ? FAR_NEAR : FAR_OK;
-    CHECK(far_map_open_memory(&map->held, &plan) == wanted);
+    CHECK(open_map_in(place, &map->held, &plan) == wanted);
     map->open = map->open || wanted == FAR_OK;
 }
 
@@ -291,7 +288,8 @@ static void play_map(struct map *map) {
 
 int main(int count, char **words) {
     uint64_t all = count > 1 ? strtoull(words[1], NULL, 10) : 100000;
-    seed = count > 2 ? strtoull(words[2], NULL, 10) : 1;
+    if (count > 2) place = words[2];
+    seed = count > 3 ? strtoull(words[3], NULL, 10) : 1;
     for (; calls < all; calls++) {
         if (below(3) != 0) play_worker(&workers[below(WORKERS)]);
         else play_map(&maps[below(MAPS)]);

@@ -1,7 +1,7 @@
 /* Calls of a map at random beside a model: each status, each length, and each byte that is read.
  *
- *     map CALLS SEED */
-#include "foxglovepeg.h"
+ *     map CALLS PLACE SEED     PLACE: memory, reserved, file, or a folder */
+#include "drawn.h"
 
 #include <inttypes.h>
 #include <stdio.h>
@@ -33,12 +33,7 @@ static const struct far_map_plan PLAN = {1 << 19, KEYS, 1 << 18, KEYS, 3, 5, 64}
         }                                                                                              \
     } while (0)
 
-static uint64_t next(struct model *model) {
-    uint64_t word = model->seed += UINT64_C(0x9e3779b97f4a7c15);
-    word = (word ^ (word >> 30)) * UINT64_C(0xbf58476d1ce4e5b9);
-    word = (word ^ (word >> 27)) * UINT64_C(0x94d049bb133111eb);
-    return word ^ (word >> 31);
-}
+static uint64_t next(struct model *model) { return drawn(&model->seed); }
 
 /* Writes the key of a number to model->key, and tells how long it is: 0 has none, and each 97th is as long as a key may be. */
 static size_t key_of(struct model *model, size_t number) {
@@ -156,31 +151,32 @@ static void refuse(struct model *model) {
     CHECK(far_map_begin(&model->map) == FAR_CLOSED);
     CHECK(far_map_next(&model->map, &byte, 1, &len, model->out, 1, &other_len) == FAR_CLOSED && len == 77 && other_len == 77);
     CHECK(far_map_statistics(&model->map, &entries, &parts) == FAR_CLOSED);
+    CHECK(far_map_trim(&model->map) == FAR_CLOSED);
     CHECK(far_map_close(&model->map) == FAR_CLOSED);
 }
 
 /* What is answered to plans. */
-static void plan(struct model *model) {
+static void plan(struct model *model, const char *place) {
     struct far_map_plan other = PLAN;
     uint64_t least = 0;
     other.typical = 0;
-    CHECK(far_map_open_memory(&model->map, &other) == FAR_LENGTH);
+    CHECK(open_map_in(place, &model->map, &other) == FAR_LENGTH);
     other = PLAN, other.long_parts = (UINT64_C(1) << 32) + 1;
-    CHECK(far_map_open_memory(&model->map, &other) == FAR_OBJECTS);
+    CHECK(open_map_in(place, &model->map, &other) == FAR_OBJECTS);
     other = PLAN;
     CHECK(far_least_near(other.long_parts, 4088, &least) == FAR_OK && least <= other.long_near_bytes);
     other.long_near_bytes = least - 1;
-    CHECK(far_map_open_memory(&model->map, &other) == FAR_NEAR);
+    CHECK(open_map_in(place, &model->map, &other) == FAR_NEAR);
     other.long_near_bytes = least;
-    CHECK(far_map_open_memory(&model->map, &other) == FAR_OK);
+    CHECK(open_map_in(place, &model->map, &other) == FAR_OK);
     CHECK(far_map_close(&model->map) == FAR_OK);
 }
 
-static void play(struct model *model, uint64_t calls) {
+static void play(struct model *model, uint64_t calls, const char *place) {
     refuse(model);
-    plan(model);
-    CHECK(far_map_open_memory(&model->map, &PLAN) == FAR_OK);
-    CHECK(far_map_open_memory(&model->map, &PLAN) == FAR_OPEN);
+    plan(model, place);
+    CHECK(open_map_in(place, &model->map, &PLAN) == FAR_OK);
+    CHECK(open_map_in(place, &model->map, &PLAN) == FAR_OPEN);
     for (; model->calls < calls; model->calls++) {
         size_t number = next(model) % KEYS;
         uint64_t what = next(model) % 16;
@@ -188,6 +184,7 @@ static void play(struct model *model, uint64_t calls) {
         else if (what < 14) get(model, number);
         else take_out(model, number);
         if (model->calls % 16384 == 0) count(model);
+        if (model->calls % 1024 == 0) CHECK(far_map_trim(&model->map) == FAR_OK);
         if (model->calls % 16384 == 5000) walk(model);
         if (model->calls % 500000 == 499999) clear(model);
     }
@@ -196,11 +193,35 @@ static void play(struct model *model, uint64_t calls) {
     refuse(model);
 }
 
+/* In what order the keys are told that a map has with this seed: as their hashes are. */
+static void tour(const struct model *model, uint64_t seed, uint64_t more_seed, uint32_t order[100]) {
+    struct far_map map = FAR_MAP_NONE;
+    struct far_map_plan plan = {1 << 17, 2048, 1 << 17, 2048, seed, more_seed, 64};
+    size_t key_len, len;
+    uint8_t value[4];
+    CHECK(far_map_open_memory(&map, &plan) == FAR_OK);
+    for (uint32_t k = 0; k < 100; k++) CHECK(far_map_put(&map, (const uint8_t *)&k, sizeof k, (const uint8_t *)"abc", 3) == FAR_OK);
+    CHECK(far_map_begin(&map) == FAR_OK);
+    for (uint32_t k = 0; k < 100; k++) CHECK(far_map_next(&map, (uint8_t *)&order[k], sizeof order[k], &key_len, value, sizeof value, &len) == FAR_OK);
+    CHECK(far_map_close(&map) == FAR_OK);
+}
+
+/* Both words of the seed are used. */
+static void seeds(const struct model *model) {
+    static uint32_t first[100], again[100], other[100], more[100];
+    tour(model, 3, 5, first);
+    tour(model, 3, 5, again);
+    tour(model, 4, 5, other);
+    tour(model, 3, 6, more);
+    CHECK(memcmp(first, again, sizeof first) == 0 && memcmp(first, other, sizeof first) != 0 && memcmp(first, more, sizeof first) != 0);
+}
+
 int main(int count, char **words) {
     struct model *model = calloc(1, sizeof *model);
     if (model == NULL || far_map_size() != sizeof(struct far_map)) return 1;
-    model->seed = count > 2 ? strtoull(words[2], NULL, 10) : 1;
-    play(model, count > 1 ? strtoull(words[1], NULL, 10) : 100000);
+    model->seed = count > 3 ? strtoull(words[3], NULL, 10) : 1;
+    seeds(model);
+    play(model, count > 1 ? strtoull(words[1], NULL, 10) : 100000, count > 2 ? words[2] : "memory");
     for (size_t k = 0; k < KEYS; k++) free(model->entries[k].value);
     free(model);
     return 0;

@@ -1,7 +1,7 @@
 /* Calls at random beside a model: each status, and each byte that is read.
  *
- *     model CALLS SEED */
-#include "foxglovepeg.h"
+ *     model CALLS PLACE SEED     PLACE: memory, reserved, file, or a folder */
+#include "drawn.h"
 
 #include <inttypes.h>
 #include <stdio.h>
@@ -31,12 +31,7 @@ struct model {
         }                                                                                                \
     } while (0)
 
-static uint64_t next(struct model *model) {
-    uint64_t word = model->seed += UINT64_C(0x9e3779b97f4a7c15);
-    word = (word ^ (word >> 30)) * UINT64_C(0xbf58476d1ce4e5b9);
-    word = (word ^ (word >> 27)) * UINT64_C(0x94d049bb133111eb);
-    return word ^ (word >> 31);
-}
+static uint64_t next(struct model *model) { return drawn(&model->seed); }
 
 static uint16_t length(struct model *model) {
     uint64_t word = next(model);
@@ -86,6 +81,20 @@ static void put(struct model *model, struct object *object) {
     CHECK(far_holds(&model->worker, object->handle) == FAR_OK);
 }
 
+/* Bytes of an object for others. */
+static void exchange(struct model *model, struct object *object) {
+    uint8_t bytes[LONGEST + 1], fresh[LONGEST];
+    size_t from = next(model) % object->len, len = 1 + next(model) % (object->len - from), past = object->len - from + 1;
+    for (size_t k = 0; k < len; k++) fresh[k] = bytes[k] = (uint8_t)(next(model) >> 9);
+    CHECK(far_exchange(&model->worker, object->handle, from, bytes, len) == FAR_OK);
+    CHECK(memcmp(bytes, object->bytes + from, len) == 0);
+    memcpy(object->bytes + from, fresh, len);
+    memset(bytes, 7, past);
+    CHECK(far_exchange(&model->worker, object->handle, from, bytes, past) == FAR_RANGE && bytes[0] == 7 && bytes[past - 1] == 7);
+    CHECK(far_exchange(&model->worker, object->handle, from, bytes, 0) == FAR_RANGE);
+    CHECK(far_exchange(&model->worker, object->handle, SIZE_MAX, bytes, 1) == FAR_RANGE);
+}
+
 /* A handle that names no object. */
 static void miss(struct model *model) {
     uint64_t made_up = next(model) | (UINT64_C(1) << 63), kept = 5;
@@ -94,6 +103,7 @@ static void miss(struct model *model) {
     uint16_t len = 0;
     CHECK(far_read(&model->worker, handle, 0, &byte, 1) == FAR_NOT_HELD);
     CHECK(far_write(&model->worker, handle, 0, &byte, 1) == FAR_NOT_HELD);
+    CHECK(far_exchange(&model->worker, handle, 0, &byte, 1) == FAR_NOT_HELD);
     CHECK(far_length(&model->worker, handle, &len) == FAR_NOT_HELD);
     CHECK(far_holds(&model->worker, handle) == FAR_NOT_HELD);
     CHECK(far_drop(&model->worker, handle) == FAR_NOT_HELD);
@@ -117,34 +127,36 @@ static void refuse(struct model *model) {
     CHECK(far_alloc_zeros(&model->worker, 1, 3, &handle) == FAR_CLOSED && handle == 5);
     CHECK(far_read(&model->worker, 0, 0, &byte, 1) == FAR_CLOSED);
     CHECK(far_write(&model->worker, 0, 0, &byte, 1) == FAR_CLOSED);
+    CHECK(far_exchange(&model->worker, 0, 0, &byte, 1) == FAR_CLOSED);
     CHECK(far_length(&model->worker, 0, &len) == FAR_CLOSED);
     CHECK(far_holds(&model->worker, 0) == FAR_CLOSED);
     CHECK(far_drop(&model->worker, 0) == FAR_CLOSED);
     CHECK(far_add_heap(&model->worker) == FAR_CLOSED);
+    CHECK(far_trim(&model->worker) == FAR_CLOSED);
     CHECK(far_statistics(&model->worker, &all) == FAR_CLOSED);
     CHECK(far_close(&model->worker) == FAR_CLOSED);
 }
 
 /* What is answered to plans. */
-static void plan(struct model *model) {
+static void plan(struct model *model, const char *place) {
     uint64_t least = 0;
-    CHECK(far_open_memory(&model->worker, NEAR, OBJECTS, 0) == FAR_LENGTH);
-    CHECK(far_open_memory(&model->worker, NEAR, OBJECTS, LONGEST + 1) == FAR_LENGTH);
-    CHECK(far_open_memory(&model->worker, NEAR, (UINT64_C(1) << 32) + 1, 64) == FAR_OBJECTS);
+    CHECK(open_in(place, &model->worker, NEAR, OBJECTS, 0) == FAR_LENGTH);
+    CHECK(open_in(place, &model->worker, NEAR, OBJECTS, LONGEST + 1) == FAR_LENGTH);
+    CHECK(open_in(place, &model->worker, NEAR, (UINT64_C(1) << 32) + 1, 64) == FAR_OBJECTS);
     CHECK(far_least_near(OBJECTS, 64, &least) == FAR_OK && least <= NEAR);
-    CHECK(far_open_memory(&model->worker, least - 1, OBJECTS, 64) == FAR_NEAR);
-    CHECK(far_open_memory(&model->worker, least, OBJECTS, 64) == FAR_OK);
+    CHECK(open_in(place, &model->worker, least - 1, OBJECTS, 64) == FAR_NEAR);
+    CHECK(open_in(place, &model->worker, least, OBJECTS, 64) == FAR_OK);
     CHECK(far_close(&model->worker) == FAR_OK);
 }
 
-static void play(uint64_t calls, uint64_t seed) {
+static void play(uint64_t calls, const char *place, uint64_t seed) {
     struct model *model = calloc(1, sizeof *model);
     if (model == NULL) exit(1);
     model->seed = seed;
     refuse(model);
-    plan(model);
-    CHECK(far_open_memory(&model->worker, NEAR, OBJECTS, 64) == FAR_OK);
-    CHECK(far_open_memory(&model->worker, NEAR, OBJECTS, 64) == FAR_OPEN);
+    plan(model, place);
+    CHECK(open_in(place, &model->worker, NEAR, OBJECTS, 64) == FAR_OK);
+    CHECK(open_in(place, &model->worker, NEAR, OBJECTS, 64) == FAR_OPEN);
     for (size_t k = 0; k < 64; k++) model->stale[k] = UINT64_MAX - k;
     for (; model->calls < calls; model->calls++) {
         struct object *object = &model->objects[next(model) % OBJECTS];
@@ -152,9 +164,11 @@ static void play(uint64_t calls, uint64_t seed) {
         if (object->len == 0) make(model, object);
         else if (what == 0) drop(model, object);
         else if (what < 9) get(model, object);
+        else if (what < 12) exchange(model, object);
         else put(model, object);
         if (what == 15) miss(model);
         if (model->calls % 65536 == 0) count(model);
+        if (model->calls % 1024 == 0) CHECK(far_trim(&model->worker) == FAR_OK);
     }
     count(model);
     CHECK(far_add_heap(&model->worker) == FAR_OK);
@@ -165,8 +179,8 @@ static void play(uint64_t calls, uint64_t seed) {
 }
 
 int main(int count, char **words) {
-    uint64_t calls = count > 1 ? strtoull(words[1], NULL, 10) : 100000, seed = count > 2 ? strtoull(words[2], NULL, 10) : 1;
+    uint64_t calls = count > 1 ? strtoull(words[1], NULL, 10) : 100000, seed = count > 3 ? strtoull(words[3], NULL, 10) : 1;
     if (far_worker_size() != sizeof(struct far_worker)) return 1;
-    play(calls, seed);
+    play(calls, count > 2 ? words[2] : "memory", seed);
     return 0;
 }

@@ -1,6 +1,9 @@
 /* Each growth of memory is refused in turn: then a call answers FAR_MEMORY, or does without, no object is lost, and all memory is given back. */
+#define _GNU_SOURCE
 #include "foxglovepeg.h"
 
+#include <errno.h>
+#include <fcntl.h>
 #include <stdio.h>
 #include <stdlib.h>
 #include <string.h>
@@ -8,7 +11,7 @@
 static uint64_t asked, refused, live;
 
 static void *at_most(size_t bytes, void *old) {
-    if (++asked == refused) return NULL;
+    if (++asked == refused) return errno = ENOMEM, NULL;
     live += old == NULL;
     return realloc(old, bytes);
 }
@@ -20,10 +23,19 @@ static void test_free(void *at) {
     free(at);
 }
 
+/* A folder that can't make a file without a name, each second time. */
+static int test_open(const char *path, int flags, int mode) {
+    if (refused % 2 == 0) return open(path, flags, mode);
+    errno = EOPNOTSUPP;
+    return -1;
+}
+
+#define open test_open
 #define malloc test_malloc
 #define realloc test_realloc
 #define free test_free
 #include "../support.c"
+#undef open
 #undef malloc
 #undef realloc
 #undef free
@@ -43,17 +55,18 @@ enum { OBJECTS = 1200, KEYS = 1200, LONG = 9000, NEAR = 1 << 16 };
     do {                                                                                                   \
         int32_t status = (call);                                                                           \
         if (status != FAR_OK) {                                                                            \
-            CHECK(status == FAR_MEMORY || status == FAR_DEVICE || status == FAR_NO_ROOM);                  \
+            CHECK(status == FAR_MEMORY || status == FAR_DEVICE || status == FAR_NO_ROOM || (status == FAR_FILE && errno == ENOMEM));                  \
             CHECK((call) == FAR_OK);                                                                       \
         }                                                                                                  \
     } while (0)
 
-static void play(void) {
+static void play(bool in_file) {
     struct far_worker worker = FAR_WORKER_NONE;
     static uint64_t handles[OBJECTS];
     uint8_t bytes[200], out[200];
     asked = 0;
-    TWICE(far_open_memory(&worker, NEAR, OBJECTS, 64));
+    if (in_file) TWICE(far_open_folder(&worker, NEAR, OBJECTS, 64, "/tmp", 1 << 22));
+    else TWICE(far_open_memory(&worker, NEAR, OBJECTS, 64));
     for (size_t k = 0; k < OBJECTS; k++) {
         memset(bytes, (int)(k % 251), sizeof bytes);
         TWICE(far_alloc(&worker, bytes, sizeof bytes, 1, &handles[k]));
@@ -63,18 +76,22 @@ static void play(void) {
         TWICE(far_read(&worker, handles[k], 0, out, sizeof out));
         CHECK(memcmp(bytes, out, sizeof out) == 0);
     }
+    memset(bytes, 3, sizeof bytes);
+    TWICE(far_exchange(&worker, handles[7], 0, bytes, sizeof bytes));
+    CHECK(bytes[0] == 7 && bytes[199] == 7);
     TWICE(far_add_heap(&worker));
-    CHECK(far_close(&worker) == FAR_OK && live == 0);
+    CHECK(far_close(&worker) == FAR_OK && live == 0 && !regions[0].taken);
 }
 
 /* The same of a map, with a long value each 100 keys. */
-static void play_map(void) {
+static void play_map(bool in_file) {
     static const struct far_map_plan PLAN = {NEAR, KEYS, NEAR, KEYS, 3, 5, 64};
     static uint8_t value[LONG], out[LONG];
     struct far_map map = FAR_MAP_NONE;
     size_t len = 0;
     asked = 0;
-    TWICE(far_map_open_memory(&map, &PLAN));
+    if (in_file) TWICE(far_map_open_folder(&map, &PLAN, "/tmp", 1 << 22, 1 << 22));
+    else TWICE(far_map_open_memory(&map, &PLAN));
     for (uint32_t k = 0; k < KEYS; k++) {
         memset(value, (int)(k % 251), sizeof value);
         TWICE(far_map_put(&map, (const uint8_t *)&k, sizeof k, value, k % 100 == 0 ? LONG : 100));
@@ -86,21 +103,23 @@ static void play_map(void) {
     }
     for (uint32_t k = 0; k < KEYS; k += 50) TWICE(far_map_remove(&map, (const uint8_t *)&k, sizeof k));
     CHECK(far_map_length(&map, &len) == FAR_OK && len == KEYS - KEYS / 50);
-    CHECK(far_map_close(&map) == FAR_OK && live == 0);
+    CHECK(far_map_close(&map) == FAR_OK && live == 0 && !regions[0].taken);
 }
 
 /* Plays with each growth refused in turn. */
-static void refuse_each(void (*play_once)(void)) {
+static void refuse_each(void (*play_once)(bool), bool in_file) {
     refused = 0;
     do {
         refused++;
-        play_once();
+        play_once(in_file);
     } while (asked >= refused);
     CHECK(refused > 20);
 }
 
 int main(void) {
-    refuse_each(play);
-    refuse_each(play_map);
+    refuse_each(play, false);
+    refuse_each(play, true);
+    refuse_each(play_map, false);
+    refuse_each(play_map, true);
     return 0;
 }

@@ -1,5 +1,5 @@
 -- A handle is its number's, and a number its handle's.
-use Rattle.std.proofs.Common.{◌≡◌, ℕ, ◌+◌, ◌*◌, ◌/◌, ◌%◌, ◌<◌, ◌^◌, sym, arith}
+use Rattle.std.proofs.Common.{◌≡◌, ℕ, ◌<◌, sym, arith}
 use Rattle.far_pool.specs.declared.handle.Handle.{Handle}
 use Rattle.far_pool.specs.Bits.{IsHandle, bits_of}
 use Rattle.far_backed.specs.Named.{handle_of}

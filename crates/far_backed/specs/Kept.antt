@@ -1,5 +1,5 @@
 -- A map, as a contract has it.
-use Rattle.std.specs.Prelude.{◌≡◌, List, refl}
+use Rattle.std.specs.Prelude.{List, refl}
 use Rattle.std.specs.FinMap as map
 use Rattle.std.specs.Coded.{Coded, code_by, coded×, coded_list, coded_ℕ}
 use Rattle.far_map.specs.Entries.{Entry}

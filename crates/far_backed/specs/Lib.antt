@@ -1,2 +1,3 @@
 pub mod Kept
 pub mod Named
+pub mod Sides

@@ -1,25 +1,27 @@
 //! The worker.
 
-ghost use Rattle.std.specs.Prelude.{◌≡◌, ◌<◌, ◌+◌, ℕ, true, false, None, Some, Err, length, slice_range, IfOk, IfErr, IfSome, OnErr, OnOk, is_some, ◌≤◌};
+ghost use Rattle.std.specs.Prelude.{◌≡◌, ◌<◌, ◌+◌, ℕ, true, false, Option, None, Some, Err, length, slice_range, IfOk, IfErr, IfSome, OnErr, OnOk, is_some, ◌≤◌};
 ghost use Rattle.far_word.specs.declared.refused.Refused.{Refused as Refusal};
 ghost use Rattle.far_word.specs.declared.refused.Refused.TheVariants.{Length, NoRoom, NotHeld};
 ghost use Rattle.far_private.specs.Heap.{IsWhyNoAccess, is_length, new_object, object_with, size_of};
 ghost use Rattle.far_pool.specs.Pool.{Changes, IsWhyNone, Makes, NextGeneration, Same, Writes, count_in, len_at, refusal_of};
-ghost use Rattle.far_private.specs.Causes.{IsFault, IsNotGiven};
-ghost use Rattle.far_pool.specs.Rooms.{IsNotTaken, IsStuck};
+ghost use Rattle.far_private.specs.Causes.{IsFault};
+ghost use Rattle.far_private.specs.Objects.{Object};
+ghost use Rattle.far_backed.specs.Sides.{IsNotGivenBy, IsNotTakenBy, IsStuckBy};
 ghost use Rattle.far_backed.specs.Named.{bytes_of, handle_of, object_of};
 
 use crate::named::{named, number_of};
-use far_device::{Device, MemDevice};
-use far_pool::{Handle, Layout, MemDevices, Worker, WorkerStatistics};
+use crate::sides::{Side, Sides};
+use far_device::Device;
+use far_pool::{Handle, Layout, Worker, WorkerStatistics};
 use far_word::Refused;
 use std::alloc::Global;
 use std::marker::Model;
 
-/// A worker over memory. To a contract it is its objects, by number.
+/// A worker over memory, which is taken as objects go far, or reserved when it is opened. To a contract it is its objects, by number.
 #[derive(Drop)]
 pub struct Backed {
-    worker: Worker<MemDevice, MemDevices>,
+    worker: Worker<Side, Sides>,
 }
 
 impl Model for Backed {
@@ -33,6 +35,20 @@ impl Model for Backed {
     ghost invariant = { λ b. b.worker.honest ≡ true };
 }
 
+// What bars an access of an object that is so long, if there is one.
+fn bar(len: Option<u16>, from: usize, count: usize) -> Option<Refused>
+    ensures { (o : Option Object) → size_of o ≡ len → result ≡ refusal_of o from count }
+{
+    let Some(len) = len else {
+        return Some(Refused::NotHeld);
+    };
+    let all = len as usize;
+    if count == 0 || count > all || from > all - count {
+        return Some(Refused::Range);
+    }
+    None
+}
+
 impl Backed {
     /// A worker of the heaps of a layout, whose far objects lie in memory. Refused as [`Worker::new`] is.
     pub fn in_memory(alloc: Global, layout: Layout) -> Result<Backed, Refused>
@@ -41,7 +57,20 @@ impl Backed {
         ensures logs { IfOk result (λ worker. worker.logs ≡ layout.logs) }
         ensures heaps { IfOk result (λ worker. length worker.shelves ≡ layout.heaps) }
     {
-        match Worker::new(alloc, MemDevices::new(alloc), layout, true) {
+        match Worker::new(alloc, Sides::in_memory(alloc), layout, true) {
+            Ok(worker) => Ok(Backed { worker }),
+            Err(why) => Err(why),
+        }
+    }
+
+    /// The same, whose far objects lie in bytes that are reserved when a heap is made: so many of each, by one call of the allocator, and never more.
+    pub fn reserved(alloc: Global, layout: Layout, room: usize) -> Result<Backed, Refused>
+        ensures empty { IfOk result (λ worker. (n : ℕ) → object_of worker n ≡ None) }
+        ensures honest { IfOk result (λ worker. worker.honest ≡ true) }
+        ensures logs { IfOk result (λ worker. worker.logs ≡ layout.logs) }
+        ensures heaps { IfOk result (λ worker. length worker.shelves ≡ layout.heaps) }
+    {
+        match Worker::new(alloc, Sides::reserved(alloc, room), layout, true) {
             Ok(worker) => Ok(Backed { worker }),
             Err(why) => Err(why),
         }
@@ -63,7 +92,7 @@ impl Backed {
         ensures refused { OnErr result (self.new ≡ self.old) }
         ensures long { is_length (length bytes.now) ≡ false → result ≡ Err Length }
         ensures why { IfErr result (λ why. IsWhyNone (length bytes.now) why) }
-        ensures room { result ≡ Err NoRoom → 3 ≤ self.old.logs → IsStuck MemDevice ⟦<MemDevice as Device>⟧.writes self.old }
+        ensures room { result ≡ Err NoRoom → 3 ≤ self.old.logs → IsStuckBy ⟦<Side as Device>⟧.writes self.old }
     {
         self.worker.alloc(bytes, structure)
     }
@@ -75,7 +104,7 @@ impl Backed {
         ensures refused { OnErr result (self.new ≡ self.old) }
         ensures long { is_length len ≡ false → result ≡ Err Length }
         ensures why { IfErr result (λ why. IsWhyNone len why) }
-        ensures room { result ≡ Err NoRoom → 3 ≤ self.old.logs → IsStuck MemDevice ⟦<MemDevice as Device>⟧.writes self.old }
+        ensures room { result ≡ Err NoRoom → 3 ≤ self.old.logs → IsStuckBy ⟦<Side as Device>⟧.writes self.old }
     {
         self.worker.alloc_zeros(len, structure)
     }
@@ -87,7 +116,7 @@ impl Backed {
         ensures refused { OnErr result (self.new ≡ self.old) }
         ensures long { is_length (length bytes.now) ≡ false → result ≡ Err Length }
         ensures why { IfErr result (λ why. IsWhyNone (length bytes.now) why) }
-        ensures room { result ≡ Err NoRoom → 3 ≤ self.old.logs → IsStuck MemDevice ⟦<MemDevice as Device>⟧.writes self.old }
+        ensures room { result ≡ Err NoRoom → 3 ≤ self.old.logs → IsStuckBy ⟦<Side as Device>⟧.writes self.old }
     {
         match self.make(bytes, structure) {
             Ok(handle) => Ok(number_of(handle)),
@@ -102,7 +131,7 @@ impl Backed {
         ensures refused { OnErr result (self.new ≡ self.old) }
         ensures long { is_length len ≡ false → result ≡ Err Length }
         ensures why { IfErr result (λ why. IsWhyNone len why) }
-        ensures room { result ≡ Err NoRoom → 3 ≤ self.old.logs → IsStuck MemDevice ⟦<MemDevice as Device>⟧.writes self.old }
+        ensures room { result ≡ Err NoRoom → 3 ≤ self.old.logs → IsStuckBy ⟦<Side as Device>⟧.writes self.old }
     {
         match self.make_zeros(len, structure) {
             Ok(handle) => Ok(number_of(handle)),
@@ -119,7 +148,7 @@ impl Backed {
         ensures barred { (why : Refusal) → refusal_of (object_of self.old number) from (length out.old) ≡ Some why → result ≡ Err why }
         ensures why { IfErr result (λ why. IsWhyNoAccess self.old.honest (refusal_of (object_of self.old number) from (length out.old)) why) }
         ensures fault { refusal_of (object_of self.old number) from (length out.old) ≡ None → IfErr result (λ why. IsFault why) }
-        ensures given { IfErr result (IsNotGiven MemDevice ⟦<MemDevice as Device>⟧.reads (handle_of number).pointer (len_at self.old (handle_of number))) }
+        ensures given { IfErr result (IsNotGivenBy ⟦<Side as Device>⟧.reads (handle_of number).pointer (len_at self.old (handle_of number))) }
     {
         let handle = named(number);
         self.worker.read(handle, from, out)
@@ -132,11 +161,44 @@ impl Backed {
         ensures refused { OnErr result (self.new ≡ self.old) }
         ensures barred { (why : Refusal) → refusal_of (object_of self.old number) from (length bytes.now) ≡ Some why → result ≡ Err why }
         ensures why { IfErr result (λ why. IsWhyNoAccess self.old.honest (refusal_of (object_of self.old number) from (length bytes.now)) why) }
-        ensures room { result ≡ Err NoRoom → 3 ≤ self.old.logs → IsNotTaken MemDevice ⟦<MemDevice as Device>⟧.writes self.old (handle_of number).heap }
-        ensures given { IfErr result (IsNotGiven MemDevice ⟦<MemDevice as Device>⟧.reads (handle_of number).pointer (len_at self.old (handle_of number))) }
+        ensures room { result ≡ Err NoRoom → 3 ≤ self.old.logs → IsNotTakenBy ⟦<Side as Device>⟧.writes self.old (handle_of number).heap }
+        ensures given { IfErr result (IsNotGivenBy ⟦<Side as Device>⟧.reads (handle_of number).pointer (len_at self.old (handle_of number))) }
     {
         let handle = named(number);
         self.worker.write(handle, from, bytes)
+    }
+
+    /// Writes bytes over those of an object, from one on, and gives back in their place those that it had there: a read and a write. Refused as these are, and [`Refused::Memory`] where there is none
+    /// for as many bytes again; then `bytes` is as it was.
+    pub fn exchange(
+        &mut self,
+        alloc: Global,
+        number: u64,
+        from: usize,
+        bytes: &mut [u8],
+    ) -> Result<(), Refused>
+        ensures written { OnOk result (Writes (handle_of number) from bytes.old self.old self.new) }
+        ensures given { OnOk result (IfSome (bytes_of self.old number) (λ all. bytes.new ≡ slice_range all from (from + length bytes.old))) }
+        ensures done { OnOk result (refusal_of (object_of self.old number) from (length bytes.old) ≡ None) }
+        ensures refused { OnErr result (self.new ≡ self.old) }
+        ensures kept { OnErr result (bytes.new ≡ bytes.old) }
+        ensures barred { (why : Refusal) → refusal_of (object_of self.old number) from (length bytes.old) ≡ Some why → result ≡ Err why }
+        ensures why { IfErr result (λ why. IsWhyNoAccess self.old.honest (refusal_of (object_of self.old number) from (length bytes.old)) why) }
+    {
+        if let Some(why) = bar(self.len_of(number), from, bytes.len()) {
+            return Err(why);
+        }
+        let Ok(mut other) = Vec::from_slice(alloc, bytes) else {
+            return Err(Refused::Memory);
+        };
+        if let Err(why) = self.read(number, from, other.as_mut_slice()) {
+            return Err(why);
+        }
+        if let Err(why) = self.write(number, from, bytes) {
+            return Err(why);
+        }
+        bytes.copy_from_slice(other.as_slice());
+        Ok(())
     }
 
     /// Drops an object. Refused [`Refused::NotHeld`] alone, exactly where there is none.

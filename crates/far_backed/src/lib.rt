@@ -4,6 +4,7 @@
 mod backed;
 mod map;
 mod named;
+mod sides;
 
 pub use backed::Backed;
 pub use map::BackedMap;

@@ -9,17 +9,17 @@ ghost use Rattle.far_map.specs.Listed.{AreAllOf};
 ghost use Rattle.far_dict.specs.Causes.{IsWhyPut, is_key};
 ghost use Rattle.far_dict.specs.Tours.{Tells};
 
-use far_device::MemDevice;
+use crate::sides::{Side, Sides};
 use far_dict::{Dict, Tour};
-use far_pool::{Layout, MemDevices, Worker, WorkerStatistics};
+use far_pool::{Layout, Worker, WorkerStatistics};
 use far_word::Refused;
 use std::alloc::Global;
 use std::marker::Model;
 
-/// A map from bytes to bytes over two workers over memory, which tells its entries one by one. To a contract it is its entries, and those that are still to be told.
+/// A map from bytes to bytes over two workers over memory, as [`Backed`](crate::Backed) has it, which tells its entries one by one. To a contract it is its entries, and those that are still to be told.
 #[derive(Drop)]
 pub struct BackedMap {
-    tour: Tour<Worker<MemDevice, MemDevices>>,
+    tour: Tour<Worker<Side, Sides>>,
 }
 
 impl Model for BackedMap {
@@ -47,11 +47,46 @@ impl BackedMap {
         ensures empty { IfOk result (λ m. m.entries ≡ map.empty) }
         ensures ended { IfOk result (λ m. m.rest ≡ []) }
     {
-        let short = match Worker::new(alloc, MemDevices::new(alloc), layout, true) {
+        let (short, long) = (Sides::in_memory(alloc), Sides::in_memory(alloc));
+        BackedMap::over(alloc, short, long, layout, long_layout, seed)
+    }
+
+    /// The same, whose far entries lie in bytes that are reserved when a heap is made: so many of each heap of short ones, and so many of each of the others, and never more.
+    pub fn reserved(
+        alloc: Global,
+        layout: Layout,
+        long_layout: Layout,
+        seed: [u8; 16],
+        room: usize,
+        long_room: usize,
+    ) -> Result<BackedMap, Refused>
+        ensures empty { IfOk result (λ m. m.entries ≡ map.empty) }
+        ensures ended { IfOk result (λ m. m.rest ≡ []) }
+    {
+        let (short, long) = (
+            Sides::reserved(alloc, room),
+            Sides::reserved(alloc, long_room),
+        );
+        BackedMap::over(alloc, short, long, layout, long_layout, seed)
+    }
+
+    // The same over the devices of two makers.
+    fn over(
+        alloc: Global,
+        sides: Sides,
+        long_sides: Sides,
+        layout: Layout,
+        long_layout: Layout,
+        seed: [u8; 16],
+    ) -> Result<BackedMap, Refused>
+        ensures empty { IfOk result (λ m. m.entries ≡ map.empty) }
+        ensures ended { IfOk result (λ m. m.rest ≡ []) }
+    {
+        let short = match Worker::new(alloc, sides, layout, true) {
             Ok(worker) => worker,
             Err(why) => return Err(why),
         };
-        let long = match Worker::new(alloc, MemDevices::new(alloc), long_layout, true) {
+        let long = match Worker::new(alloc, long_sides, long_layout, true) {
             Ok(worker) => worker,
             Err(why) => return Err(why),
         };

@@ -135,6 +135,36 @@ pub extern "C" fn far_write(
     }
 }
 
+/// Writes bytes over those of an object, from one on, and gives back in their place those that it had there.
+#[unsafe(no_mangle)]
+pub extern "C" fn far_exchange(
+    alloc: Global,
+    worker: &mut FarWorker,
+    handle: u64,
+    from: usize,
+    bytes: &mut [u8],
+) -> i32
+    ensures written { result ≡ FAR_OK → IsSomeAnd worker.old.held.pool (λ w. IsSomeAnd worker.new.held.pool (λ v. Writes (handle_of handle) from bytes.old w v)) }
+    ensures given { result ≡ FAR_OK → IsSomeAnd worker.old.held.pool (λ w. IfSome (bytes_of w handle) (λ all. bytes.new ≡ slice_range all from (from + length bytes.old))) }
+    ensures done { result ≡ FAR_OK → IsSomeAnd worker.old.held.pool (λ w. refusal_of (object_of w handle) from (length bytes.old) ≡ None) }
+    ensures left { result ≢ FAR_OK → (worker.new.held.pool ≡ worker.old.held.pool) × (bytes.new ≡ bytes.old) }
+    ensures barred { IfSome worker.old.held.pool (λ w. (why : Refusal) → refusal_of (object_of w handle) from (length bytes.old) ≡ Some why → result ≡ pos (refusal_number why)) }
+    ensures why { result ≢ FAR_OK → IfSome worker.old.held.pool (λ w. IsToldBy (IsWhyNoAccess w.honest (refusal_of (object_of w handle) from (length bytes.old))) result) }
+    ensures closed { worker.old.held.pool ≡ None → result ≡ FAR_CLOSED }
+{
+    match take_out(worker, alloc) {
+        Some(mut it) => {
+            let done = it.exchange(alloc, handle, from, bytes);
+            give(worker, it);
+            match done {
+                Ok(()) => FAR_OK,
+                Err(why) => status_of(why),
+            }
+        }
+        None => FAR_CLOSED,
+    }
+}
+
 /// Drops an object.
 #[unsafe(no_mangle)]
 pub extern "C" fn far_drop(alloc: Global, worker: &mut FarWorker, handle: u64) -> i32

@@ -9,7 +9,8 @@ use crate::map_handle::{FarMap, hold_map, take_map_out};
 use crate::opening::laid;
 use crate::status::{FAR_CLOSED, FAR_MEMORY, FAR_OK, FAR_OPEN};
 use far_backed::BackedMap;
-use far_word::LONGEST;
+use far_pool::Layout;
+use far_word::{LONGEST, Refused};
 use std::alloc::Global;
 
 /// What a map is to have: `struct far_map_plan`.
@@ -34,8 +35,27 @@ fn seed_of(plan: &FarMapPlan) -> [u8; 16] {
     seed
 }
 
+// A map of two layouts, whose heaps have so many bytes reserved, if they have: the short ones' and the others'.
+fn over(
+    alloc: Global,
+    layout: Layout,
+    long_layout: Layout,
+    seed: [u8; 16],
+    rooms: Option<(usize, usize)>,
+) -> Result<BackedMap, Refused>
+    ensures empty { IfOk result (λ m. m.entries ≡ fin.empty) }
+    ensures ended { IfOk result (λ m. m.rest ≡ []) }
+{
+    match rooms {
+        Some((room, long_room)) => {
+            BackedMap::reserved(alloc, layout, long_layout, seed, room, long_room)
+        }
+        None => BackedMap::in_memory(alloc, layout, long_layout, seed),
+    }
+}
+
 // The map of a plan, or its status.
-fn made(alloc: Global, plan: &FarMapPlan) -> Result<BackedMap, i32>
+fn made(alloc: Global, plan: &FarMapPlan, rooms: Option<(usize, usize)>) -> Result<BackedMap, i32>
     ensures empty { IfOk result (λ m. m ≡ record { entries = fin.empty; rest = [] }) }
     ensures refused { IfErr result (λ status. status ≢ FAR_OK) }
     ensures why { IfErr result (IsWhyNoMap (short_plan plan.now) (long_plan plan.now)) }
@@ -48,9 +68,31 @@ fn made(alloc: Global, plan: &FarMapPlan) -> Result<BackedMap, i32>
         Ok(layout) => layout,
         Err(status) => return Err(status),
     };
-    match BackedMap::in_memory(alloc, layout, long_layout, seed_of(plan)) {
+    match over(alloc, layout, long_layout, seed_of(plan), rooms) {
         Ok(it) => Ok(it),
         Err(_) => Err(FAR_MEMORY),
+    }
+}
+
+// Opens an empty map.
+fn open(alloc: Global, map: &mut FarMap, plan: &FarMapPlan, rooms: Option<(usize, usize)>) -> i32
+    ensures opened { result ≡ FAR_OK → map.new.held.kept ≡ Some record { entries = fin.empty; rest = [] } }
+    ensures left { result ≢ FAR_OK → map.new.held.kept ≡ map.old.held.kept }
+    ensures open { IsSome map.old.held.kept → result ≡ FAR_OPEN }
+    ensures why { map.old.held.kept ≡ None → result ≢ FAR_OK → IsWhyNoMap (short_plan plan.now) (long_plan plan.now) result }
+{
+    if map.live {
+        return FAR_OPEN;
+    }
+    match made(alloc, plan, rooms) {
+        Ok(it) => {
+            if hold_map(map, alloc, it) {
+                FAR_OK
+            } else {
+                FAR_MEMORY
+            }
+        }
+        Err(status) => status,
     }
 }
 
@@ -62,19 +104,24 @@ pub extern "C" fn far_map_open_memory(alloc: Global, map: &mut FarMap, plan: &Fa
     ensures open { IsSome map.old.held.kept → result ≡ FAR_OPEN }
     ensures why { map.old.held.kept ≡ None → result ≢ FAR_OK → IsWhyNoMap (short_plan plan.now) (long_plan plan.now) result }
 {
-    if map.live {
-        return FAR_OPEN;
-    }
-    match made(alloc, plan) {
-        Ok(it) => {
-            if hold_map(map, alloc, it) {
-                FAR_OK
-            } else {
-                FAR_MEMORY
-            }
-        }
-        Err(status) => status,
-    }
+    open(alloc, map, plan, None)
+}
+
+/// The same, whose far entries lie in bytes that are reserved now, so many for each heap of those that an object has room for, and so many for each of the others.
+#[unsafe(no_mangle)]
+pub extern "C" fn far_map_open_reserved(
+    alloc: Global,
+    map: &mut FarMap,
+    plan: &FarMapPlan,
+    room: usize,
+    long_room: usize,
+) -> i32
+    ensures opened { result ≡ FAR_OK → map.new.held.kept ≡ Some record { entries = fin.empty; rest = [] } }
+    ensures left { result ≢ FAR_OK → map.new.held.kept ≡ map.old.held.kept }
+    ensures open { IsSome map.old.held.kept → result ≡ FAR_OPEN }
+    ensures why { map.old.held.kept ≡ None → result ≢ FAR_OK → IsWhyNoMap (short_plan plan.now) (long_plan plan.now) result }
+{
+    open(alloc, map, plan, Some((room, long_room)))
 }
 
 /// Closes a map, and drops its entries.

@@ -14,7 +14,7 @@ use crate::handle::{FarWorker, hold, take_out};
 use crate::status::{FAR_CLOSED, FAR_LENGTH, FAR_MEMORY, FAR_NEAR, FAR_OBJECTS, FAR_OK, FAR_OPEN};
 use far_backed::Backed;
 use far_pool::{Layout, Plan, Unplanned};
-use far_word::LONGEST;
+use far_word::{LONGEST, Refused};
 use std::alloc::Global;
 
 /// The most objects of a worker.
@@ -39,6 +39,53 @@ pub(crate) fn laid(near: u64, objects: u64, typical: u16) -> Result<Layout, i32>
     }
 }
 
+// A worker of a layout, whose heaps have so many bytes reserved, if they have.
+fn made(alloc: Global, layout: Layout, room: Option<usize>) -> Result<Backed, Refused>
+    ensures empty { IfOk result (λ worker. (n : ℕ) → object_of worker n ≡ None) }
+    ensures honest { IfOk result (λ worker. worker.honest ≡ true) }
+    ensures logs { IfOk result (λ worker. worker.logs ≡ layout.logs) }
+    ensures heaps { IfOk result (λ worker. length worker.shelves ≡ layout.heaps) }
+{
+    match room {
+        Some(room) => Backed::reserved(alloc, layout, room),
+        None => Backed::in_memory(alloc, layout),
+    }
+}
+
+// Opens a worker without objects.
+fn open(
+    alloc: Global,
+    worker: &mut FarWorker,
+    near: u64,
+    objects: u64,
+    typical: u16,
+    room: Option<usize>,
+) -> i32
+    ensures opened { result ≡ FAR_OK → IsSomeAnd worker.new.held.pool (λ w. ((n : ℕ) → object_of w n ≡ None) × (w.honest ≡ true)) }
+    ensures laid { result ≡ FAR_OK → IsSomeAnd worker.new.held.pool (λ w. (l : AnyLayout) × IsLaid record { near = near; objects = objects; typical = typical } l × (w.logs ≡ l.logs) × (length w.shelves ≡ l.heaps)) }
+    ensures left { result ≢ FAR_OK → worker.new.held.pool ≡ worker.old.held.pool }
+    ensures open { IsSome worker.old.held.pool → result ≡ FAR_OPEN }
+    ensures why { worker.old.held.pool ≡ None → result ≢ FAR_OK → IsWhyShut record { near = near; objects = objects; typical = typical } result }
+{
+    if worker.live {
+        return FAR_OPEN;
+    }
+    let layout = match laid(near, objects, typical) {
+        Ok(layout) => layout,
+        Err(status) => return status,
+    };
+    match made(alloc, layout, room) {
+        Ok(it) => {
+            if hold(worker, alloc, it) {
+                FAR_OK
+            } else {
+                FAR_MEMORY
+            }
+        }
+        Err(_) => FAR_MEMORY,
+    }
+}
+
 /// Opens a worker without objects, whose far objects lie in memory, and come back as they went.
 #[unsafe(no_mangle)]
 pub extern "C" fn far_open_memory(
@@ -54,22 +101,41 @@ pub extern "C" fn far_open_memory(
     ensures open { IsSome worker.old.held.pool → result ≡ FAR_OPEN }
     ensures why { worker.old.held.pool ≡ None → result ≢ FAR_OK → IsWhyShut record { near = near; objects = objects; typical = typical } result }
 {
-    if worker.live {
-        return FAR_OPEN;
-    }
-    let layout = match laid(near, objects, typical) {
-        Ok(layout) => layout,
-        Err(status) => return status,
-    };
-    match Backed::in_memory(alloc, layout) {
-        Ok(it) => {
-            if hold(worker, alloc, it) {
-                FAR_OK
-            } else {
-                FAR_MEMORY
-            }
+    open(alloc, worker, near, objects, typical, None)
+}
+
+/// The same, whose far objects lie in bytes that are reserved now, so many for each heap.
+#[unsafe(no_mangle)]
+pub extern "C" fn far_open_reserved(
+    alloc: Global,
+    worker: &mut FarWorker,
+    near: u64,
+    objects: u64,
+    typical: u16,
+    room: usize,
+) -> i32
+    ensures opened { result ≡ FAR_OK → IsSomeAnd worker.new.held.pool (λ w. ((n : ℕ) → object_of w n ≡ None) × (w.honest ≡ true)) }
+    ensures laid { result ≡ FAR_OK → IsSomeAnd worker.new.held.pool (λ w. (l : AnyLayout) × IsLaid record { near = near; objects = objects; typical = typical } l × (w.logs ≡ l.logs) × (length w.shelves ≡ l.heaps)) }
+    ensures left { result ≢ FAR_OK → worker.new.held.pool ≡ worker.old.held.pool }
+    ensures open { IsSome worker.old.held.pool → result ≡ FAR_OPEN }
+    ensures why { worker.old.held.pool ≡ None → result ≢ FAR_OK → IsWhyShut record { near = near; objects = objects; typical = typical } result }
+{
+    open(alloc, worker, near, objects, typical, Some(room))
+}
+
+/// How many heaps a worker has that is opened so.
+#[unsafe(no_mangle)]
+pub extern "C" fn far_heaps(near: u64, objects: u64, typical: u16, heaps: &mut u32) -> i32
+    ensures told { result ≡ FAR_OK → (l : AnyLayout) × IsLaid record { near = near; objects = objects; typical = typical } l × (heaps.new ≡ l.heaps) }
+    ensures left { result ≢ FAR_OK → heaps.new ≡ heaps.old }
+    ensures why { result ≢ FAR_OK → IsUnlaid record { near = near; objects = objects; typical = typical } result }
+{
+    match laid(near, objects, typical) {
+        Ok(layout) => {
+            *heaps = layout.heaps;
+            FAR_OK
         }
-        Err(_) => FAR_MEMORY,
+        Err(status) => status,
     }
 }
 
