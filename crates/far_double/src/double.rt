@@ -18,6 +18,7 @@ pub struct Double {
     live: usize,
     luck: u64,
     every: u64,
+    calls: u64,
     alloc: Global,
 }
 
@@ -43,6 +44,7 @@ impl Double {
             live: 0,
             luck: every,
             every,
+            calls: 0,
             alloc,
         }
     }
@@ -50,6 +52,11 @@ impl Double {
     /// How many objects there are.
     pub fn live(&self) -> usize {
         self.live
+    }
+
+    /// How many calls to make, read or write there were that nothing barred.
+    pub fn calls(&self) -> u64 {
+        self.calls
     }
 
     /// Other room from here on.
@@ -77,10 +84,11 @@ impl Double {
         self.alloc
     }
 
-    /// Whether a call is answered.
+    /// Whether a call is answered. It is counted.
     pub fn is_lucky(&mut self) -> bool
         ensures { self.new ≡ self.old }
     {
+        self.calls = self.calls.saturating_add(1);
         if self.every == 0 {
             return true;
         }

@@ -73,8 +73,8 @@ impl Large {
 
     /// Reads bytes of the value, from one on, as many as `out` has.
     ///
-    /// Refused, in this order: [`Refused::Range`] exactly where `out` has no byte or they pass the value's end; [`Refused::NotHeld`] only where `worker` hasn't got all its
-    /// parts; and then as a far object isn't reached. `out` may have any bytes then.
+    /// Refused [`Refused::Range`] first, exactly where `out` has no byte or they pass the value's end; then by the first part that isn't read: [`Refused::NotHeld`], only
+    /// where `worker` hasn't got all parts, or as a far object isn't reached. `out` may have any bytes then.
     pub fn read<O: Objects>(
         &self,
         worker: &mut O,

@@ -52,7 +52,7 @@ impl<O: Objects + Drop> Map<O> {
         Ok(true)
     }
 
-    /// Makes the index large enough for so many entries more. Refused [`Refused::Memory`] alone.
+    /// Makes the index large enough for so many entries more: none of them makes it anew. Refused [`Refused::Memory`] alone.
     pub fn reserve(&mut self, additional: usize) -> Result<(), Refused>
         ensures same { self.old.honest ≡ true → self.new ≡ self.old }
         ensures honest { self.new.honest ≡ self.old.honest }
@@ -61,10 +61,12 @@ impl<O: Objects + Drop> Map<O> {
     {
         let wanted = self.parts.near.count.saturating_add(additional);
         let homes = wanted.saturating_add(wanted / 3).saturating_add(64);
-        if homes <= self.parts.near.buckets {
+        let buckets = self.parts.near.buckets;
+        let taken = self.parts.near.used.saturating_add(additional);
+        if homes <= buckets && taken < buckets - buckets / 8 {
             return Ok(());
         }
-        match rebuild(self.parts.alloc, &mut self.parts.near, homes) {
+        match rebuild(self.parts.alloc, &mut self.parts.near, homes.max(buckets)) {
             Ok(()) => Ok(()),
             Err(_) => Err(Refused::Memory),
         }

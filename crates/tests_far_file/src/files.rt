@@ -181,7 +181,13 @@ fn share(alloc: Global, file: File) -> bool {
         shared.device::<Digest>(alloc),
         shared.device::<Digest>(alloc),
     ) {
-        (Ok(mut one), Ok(mut other)) => can_be_sent(&one) && two_keep(alloc, &mut one, &mut other),
+        (Ok(mut one), Ok(mut other)) => {
+            one.write(0, &[1]).is_ok()
+                && other.write(0, &[2]).is_ok()
+                && shared.end() == 3 * 16384
+                && can_be_sent(&one)
+                && two_keep(alloc, &mut one, &mut other)
+        }
         _ => false,
     }
 }
@@ -194,9 +200,19 @@ fn two_devices_use_one_file(rt: HostRuntime) {
     }
 }
 
-// Whether a device takes these bytes again and again, under 100 keys.
+// Lets go of so many keys.
+fn forget_all(device: &mut FileDevice<File>, keys: u32) {
+    for key in 0..keys {
+        device.forget(key);
+    }
+}
+
+// Whether a device takes these bytes again and again, under 100 keys, and lets go of them all between later turns.
 fn takes_again(device: &mut FileDevice<File>, bytes: &[u8]) -> bool {
-    for key in 0..1000u32 {
+    for key in 0..2000u32 {
+        if key >= 1000 && key % 100 == 0 {
+            forget_all(device, 100);
+        }
         if device.write(key % 100, bytes).is_err() {
             return false;
         }

@@ -47,7 +47,7 @@ fn no_room_for_a_part_is_none_for_a_value(rt: HostRuntime) {
     }
 }
 
-// A read of three parts, of which the n-th is refused, is refused; the next isn't.
+// A value of three parts is put by three calls, and read by three, of which the n-th is refused; the next isn't.
 fn reads_later(alloc: Global, nth: u64) -> Result<bool, Refused> {
     let mut worker = Double::new(alloc, true, 100, 0);
     let all = pattern(alloc, 12_000)?;
@@ -57,7 +57,8 @@ fn reads_later(alloc: Global, nth: u64) -> Result<bool, Refused> {
     let refused = large.read(&mut worker, 0, out.as_mut_slice()) == Err(Refused::Device);
     worker.set_every(0);
     large.read(&mut worker, 0, out.as_mut_slice())?;
-    Ok(refused && out.as_slice() == all.as_slice())
+    let calls = worker.calls() == nth.saturating_add(6);
+    Ok(refused && calls && out.as_slice() == all.as_slice())
 }
 
 #[test]

@@ -39,8 +39,19 @@ fn plans_come_to_layouts(rt: HostRuntime) {
     }
 }
 
+// As measured: 49,664 bytes a heap of 32 logs.
+#[test]
+fn a_layout_tells_what_lies_beside(rt: HostRuntime) {
+    let layout = Layout {
+        heaps: 512,
+        logs: 32,
+    };
+    assert!(rt; layout.near() == 67_108_864 && layout.metadata() == 25_427_968);
+}
+
 #[test]
 fn a_plan_by_bytes_alone(rt: HostRuntime) {
     let plan = Plan::for_near(67_108_864);
     assert!(rt; plan.objects == 3_728_270 && plan.lay_out().is_ok());
+    assert!(rt; Plan::for_near(u64::MAX).lay_out().is_ok());
 }

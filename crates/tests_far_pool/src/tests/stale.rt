@@ -28,22 +28,30 @@ fn is_unknown(pool: &Pool, handle: Handle) -> bool {
     pool.len_of(handle).is_none() && pool.structure_of(handle).is_none() && !pool.holds(handle)
 }
 
-// The pointer of what was dropped comes again under another handle, 300 times, more than a byte counts; no old handle reaches what is there then.
+// The pointer of what was dropped comes again under another handle, 2,100 times, more than a byte counts, or a heap has pointers; no old handle reaches what is there
+// then, and both heaps still have room.
 fn old_stay_refused(pool: &mut Pool) -> Result<bool, Refused> {
     let first = pool.alloc(&[7; 8], 3)?;
     let mut handle = first;
-    for _ in 0..300u16 {
+    for _ in 0..2100u16 {
         pool.drop_object(handle)?;
         if !is_refused(pool, handle) || !is_refused(pool, first) {
             return Ok(false);
         }
         // One in the other heap, and one at the pointer again.
-        let _ = pool.alloc(&[1], 4)?;
+        let beside = pool.alloc(&[1], 4)?;
         handle = pool.alloc(&[8; 8], 3)?;
+        pool.drop_object(beside)?;
+        if handle.to_bits() >> 32 != first.to_bits() >> 32 {
+            return Ok(false);
+        }
+    }
+    for _ in 0..4u8 {
+        let _ = pool.alloc(&[1], 4)?;
     }
     let mut out = [0; 8];
     pool.read(handle, 0, &mut out)?;
-    Ok(out == [8; 8] && handle.to_bits() == first.to_bits().wrapping_add(300))
+    Ok(out == [8; 8] && handle.to_bits() == first.to_bits().wrapping_add(2100))
 }
 
 #[test]

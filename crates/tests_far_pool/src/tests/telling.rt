@@ -78,16 +78,23 @@ fn is_told(alloc: Global) -> Result<bool, Refused> {
     worker.read(first, 0, &mut [0])?;
     let none = worker.read(Handle::from_bits(u64::MAX), 0, &mut [0]);
     let mut whole = Vec::new(alloc);
+    let old = Handle::from_bits(first.to_bits().wrapping_add(1));
+    let written = worker.write(old, 0, &[7]);
+    let updated = worker.update(old, 0, &mut [0], |bytes: &mut [u8]| bytes.fill(7));
+    let read = worker.read_into(old, &mut whole);
     worker.read_into(first, &mut whole)?;
     let told = worker.statistics();
     Ok(
         none == Err(Refused::NotHeld)
+            && written == none
+            && updated == none
+            && read == none
             && whole.len() == 400
             && before.accesses == made.saturating_mul(3)
             && before.looks == 0
             && before.fetches == 0
             && before.misses_per_thousand() == 0
-            && told.accesses == before.accesses.saturating_add(3)
+            && told.accesses == before.accesses.saturating_add(6)
             && told.looks == 1
             && told.fetches == 1
             && told.misses_per_thousand() == 8

@@ -18,8 +18,9 @@
 //! `once FIRST COUNT` | of each of so many pointers the first byte is read once, and is 0
 //! `drop NAME` | it is dropped
 //! `look NAME LEN` | what its cell tells; 0: it has no object
-//! `round MOST LEAST` | a round of so many logs at most gives so many back
+//! `round MOST LEAST LESS` | a round of so many logs at most gives so many back, and fewer than LESS, unless that is 0
 //! `tell LOGS OBJECTS FAR FETCHES EVICTIONS SPARED FAULTS BYTES MOVES LOOKS` | the statistics: BYTES are those of far objects
+//! `gone LIVE DEAD ROUNDS` | the bytes of logs that objects take, and those that nothing needs; the rounds that were made
 //! `set COUNT` | objects are made of many lengths, whose bytes are all their name
 //! `wrong COUNT MOST` | of these all bytes of so many at most are inverted, and no other is wrong
 

@@ -32,7 +32,7 @@ const MANY_MORE: &str = "many 200 4088;";
 const ROUNDS: &str = "round 0 0; round 1 1; round 2 0; round 64 0;";
 
 // Rounds over a device that takes nothing give nothing back.
-const VAIN_ROUNDS: &str = "round 1 0; round 2 0; round 64 0;";
+const VAIN_ROUNDS: &str = "round 1 0 1; round 2 0 1; round 64 0 1;";
 
 // Over a device that takes nothing two or three logs fill, and then there is no room; what is there stays, and takes no harm from being asked for.
 const FULL: &str = "until 0 2 4088 !2; new 7 4088 !2;";
@@ -84,7 +84,22 @@ const TWICE_EACH_TIME: &str =
 const MANY_LOOKS: &str =
     "new 0 8; many 298 8; new 1 8; many 1 4088; round 64 1; tell 8 301 300 0 300 0 0 2400; once 0 300; tell 8 301 300 0 300 0 0 2400 0 300; \
     has 1 0 8 0; tell 8 301 299 1 300 0 0 2392 0 300; has 0 0 8 0; tell 8 301 299 1 300 0 0 2392 0 301; \
-    has 0 0 8 0; tell 8 301 298 2 300 0 0 2384 0 301;";
+    has 0 0 8 0; tell 8 301 298 2 300 0 0 2384 0 301; \
+    has 1010 0 8 0; has 1011 0 8 0; has 1010 0 8 0; tell 8 301 297 3 300 0 0 2376 0 303;";
+
+// Pointers 0 and 1,024 are looked at, each for the first time: both stay far.
+const LOOKS_APART: &str = "new 0 8; many 1023 8; new 1 8; many 1 4088; round 64 5; \
+    has 0 0 8 0; has 1 0 8 0; tell 8 1026 1025 0 1025 0 0 8200 0 2;";
+
+// The oldest four logs are full of what the device doesn't take: rounds that bring nothing aren't the last of a call.
+const STUBBORN_IN_FRONT: &str = "many 150 100; many 100 4088; pack 100 4088;";
+
+// All is hot, and in each log lies one that the device refuses: of three logs a second pass brings room.
+const STUBBORN_IN_EACH: &str =
+    "many 1 100; many 1 3980; many 1 100; many 1 3980; once 0 4; many 1 4088; once 0 4;";
+
+// A call empties an eighth of 64 logs, and no more.
+const FEW_LEAVE: &str = "many 64 4088; tell 64 64 8 0 8 0 0 32704;";
 
 // Where all logs are full of what the device doesn't take, a far object is read all the same, and not written.
 const FULL_READS: &str =
@@ -107,9 +122,13 @@ const UNUSED: &str = "bytes 0 8 9; many 1 4088; round 1 1; tell 4 2 1 0 1 0 0 8;
 // So does one that a write brought.
 const BROUGHT: &str = "fill 0 0 8 5; many 1 4088; round 64 1; tell 4 3 2 1 3 0 0 4096;";
 
+// What is dropped is dead until its log is given back.
+const DEAD: &str =
+    "new 0 8; new 1 100; drop 1; gone 16 112 0; many 1 4088; gone 4112 112 0; round 64 1 2; gone 4096 0 1;";
+
 // The device fails the first write.
 const FAULTS: &str =
-    "new 0 8; many 1 4088; round 1 0; tell 4 2 0 0 0 0 1; round 1 1; tell 4 2 1 0 1 0 1 8;";
+    "new 0 8; many 1 4088; round 1 0 1; tell 4 2 0 0 0 0 1; round 1 1; tell 4 2 1 0 1 0 1 8;";
 
 #[rattlefmt::skip]
 const PLAYS: &[Play] = &[
@@ -121,16 +140,21 @@ const PLAYS: &[Play] = &[
     Play { name: "what_is_refused_stays", flaw: Flaw::Refuses, parts: &[FIVE, FULL, FIVE_ARE_THERE, VAIN_ROUNDS, FIVE_ARE_THERE, DROPPED_ROOM, FIVE_ARE_THERE], ..FOUR_LOGS },
     Play { name: "so_does_what_there_is_no_memory_for", flaw: Flaw::Starves, parts: &[FIVE, FULL, FIVE_ARE_THERE, VAIN_ROUNDS, FIVE_ARE_THERE, DROPPED_ROOM, FIVE_ARE_THERE], ..FOUR_LOGS },
     Play { name: "a_stubborn_object_keeps_no_other_log", flaw: Flaw::Dislikes, at: 100, parts: &[STUBBORN], ..FOUR_LOGS },
+    Play { name: "stubborn_objects_in_front_keep_no_log_behind", logs: 8, flaw: Flaw::Dislikes, at: 100, parts: &[STUBBORN_IN_FRONT], ..FOUR_LOGS },
+    Play { name: "a_second_pass_brings_room", logs: 3, flaw: Flaw::Dislikes, at: 100, parts: &[STUBBORN_IN_EACH], ..FOUR_LOGS },
     Play { name: "a_second_round_brings_room", flaw: Flaw::Dislikes, at: 100, parts: &[TWICE], ..FOUR_LOGS },
     Play { name: "pointers_of_each_part_have_room", parts: &[EACH_OWNER, BY_TURNS, BY_TURNS], ..FOUR_LOGS },
     Play { name: "a_fetch_is_counted_once", parts: &[COUNTED, READ_AGAIN], ..FOUR_LOGS },
     Play { name: "a_second_read_brings_it_each_time", parts: &[COUNTED, TWICE_EACH_TIME], ..FOUR_LOGS },
     Play { name: "looks_are_forgotten", logs: 8, parts: &[MANY_LOOKS], ..FOUR_LOGS },
+    Play { name: "looks_at_pointers_far_apart_are_two", logs: 8, parts: &[LOOKS_APART], ..FOUR_LOGS },
+    Play { name: "a_call_sends_few_away", logs: 64, parts: &[FEW_LEAVE], ..FOUR_LOGS },
     Play { name: "a_full_heap_is_read", flaw: Flaw::Dislikes, at: 100, parts: &[FULL_READS], ..FOUR_LOGS },
     Play { name: "a_write_that_is_spared_is_counted", parts: &[COUNTED, SPARED], ..FOUR_LOGS },
     Play { name: "a_used_object_moves", parts: &[MOVED], ..FOUR_LOGS },
     Play { name: "a_call_moves_what_is_used", parts: &[KEPT_IN_USE], ..FOUR_LOGS },
     Play { name: "an_unused_object_leaves", parts: &[UNUSED, BROUGHT], ..FOUR_LOGS },
+    Play { name: "bytes_of_logs_are_told", parts: &[DEAD], ..FOUR_LOGS },
     Play { name: "faults_are_counted", flaw: Flaw::Fails, at: 1, parts: &[FAULTS], ..FOUR_LOGS },
     Play { name: "one_failure_leaves_room", flaw: Flaw::Fails, at: 1, parts: &[PASSES], ..FOUR_LOGS },
     Play { name: "a_later_one_does", flaw: Flaw::Lacks, at: 5, parts: &[PASSES], ..FOUR_LOGS },

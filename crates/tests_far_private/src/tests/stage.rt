@@ -259,7 +259,8 @@ impl<D: Device + Drop> Stage<D> {
     fn does_round(&mut self, act: &Act) -> bool {
         let most = act.number(0) as usize;
         let freed = round(&mut self.heap, most);
-        act.number(1) as usize <= freed && freed <= most
+        let less = act.number(2) as usize;
+        act.number(1) as usize <= freed && freed <= most && (less == 0 || freed < less)
     }
 
     // Whether the bytes of all logs are told, and so many objects.
@@ -284,6 +285,12 @@ impl<D: Device + Drop> Stage<D> {
             && told.looks == act.number(9)
     }
 
+    // `gone`.
+    fn does_gone(&self, act: &Act) -> bool {
+        let told = tell(&self.heap);
+        told.live == act.number(0) && told.dead == act.number(1) && told.rounds == act.number(2)
+    }
+
     // Whether an act comes out as it should.
     fn does(&mut self, act: &Act) -> bool {
         match act.verb {
@@ -294,6 +301,7 @@ impl<D: Device + Drop> Stage<D> {
             b'l' => self.does_look(act),
             b'r' => self.does_round(act),
             b't' => self.does_tell(act),
+            b'g' => self.does_gone(act),
             _ => false,
         }
     }
