@@ -1,18 +1,19 @@
 #!/usr/bin/env python3
 """Prints what a program may name of the crates that it uses, each with its comment and its contract, as a page.
 
-usage: api.py >FILE
+usage: api.py [CRATE..] >FILE     as in api.py far_map far_policy; without one those of CRATES. scripts/vendor.py writes such a page beside what it copies
 """
 import pathlib
 import re
+import sys
 
 TOP = pathlib.Path(__file__).resolve().parent.parent
 CRATES = ("far_pool", "far_map", "far_dict", "far_array", "far_large", "far_private", "far_heap", "far_file", "far_objects")
 HEAD = """# What a program may call
 
-Of each crate the types, calls and clauses that another crate sees, made from the sources by scripts/api.py. `ensures` says what holds after
-a call, `requires` what has to hold before it; `OnOk`, `OnErr`, `IfOk`, `IfErr` begin what is said of one outcome, `x.old` and `x.new` are
-a value before and after. How to read a contract: docs/PROVED.md.
+Of each crate the types, calls and clauses that another crate sees, made from the sources by scripts/api.py. A name is imported from the crate
+under whose heading it stands: `use far_map::Map;`. `ensures` says what holds after a call, `requires` what has to hold before it; `OnOk`,
+`OnErr`, `IfOk`, `IfErr` begin what is said of one outcome, `x.old` and `x.new` are a value before and after. How to read a contract: docs/PROVED.md.
 """
 TYPE = re.compile(r"pub (?:struct|enum|trait|const|type) (\w+)")
 CALL = re.compile(r"(?:pub )?(?:const )?fn (\w+)")
@@ -69,19 +70,19 @@ def fields(lines: list, at: int) -> list:
 
 def items(path: pathlib.Path) -> list:
     """What a file makes public: of what, its name, its lines, its comment."""
-    lines, found, comment, block = path.read_text().splitlines(), [], [], None
+    lines, found, comment, block, in_trait = path.read_text().splitlines(), [], [], None, False
     for at, line in enumerate(lines):
         word = line.strip()
         if word.startswith("///"):
             comment.append(word[3:].strip())
             continue
         if BLOCK.match(line):
-            block = subject(line)
+            block, in_trait = subject(line), line.startswith("pub trait")
         elif line == "}":
             block = None
         if (it := TYPE.match(line)) and not line.startswith("pub(crate)"):
             found.append((it[1], "", fields(lines, at), comment))
-        elif (it := CALL.match(word)) and (word.startswith("pub ") or (block and comment and not word.startswith("pub("))):
+        elif (it := CALL.match(word)) and (word.startswith("pub ") or (block and in_trait and comment)):
             depth = len(line) - len(line.lstrip())
             if depth == 0 or block:
                 found.append((block if depth else it[1], it[1] if depth else "", [row[depth:] for row in head_of(lines, at)], comment))
@@ -107,9 +108,19 @@ def section(crate: pathlib.Path) -> str:
     return text
 
 
-def main() -> None:
-    print(HEAD + "".join(section(TOP / "crates" / name) for name in CRATES), end="")
+def page(crates: list) -> str:
+    """What may be called of these crates."""
+    return HEAD + "".join(section(TOP / "crates" / name) for name in crates)
+
+
+def main() -> int:
+    unknown = [name for name in sys.argv[1:] if not (TOP / "crates" / name / "src" / "lib.rt").exists()]
+    if unknown:
+        print(f"api: no library here is named {', '.join(unknown)}", file=sys.stderr)
+        return 2
+    print(page(sys.argv[1:] or CRATES), end="")
+    return 0
 
 
 if __name__ == "__main__":
-    main()
+    sys.exit(main())

@@ -34,6 +34,8 @@ def root_file(root: pathlib.Path, crate: str) -> str:
 
 
 def main() -> None:
+    if len(sys.argv) < 4:
+        sys.exit(__doc__.strip())
     root, crate, kept, *flags = sys.argv[1:]
     root, kept, uses = pathlib.Path(root).resolve(), pathlib.Path(kept).resolve(), uses_of(pathlib.Path(root))
     own = below(crate, uses)

@@ -189,6 +189,8 @@ def main() -> int:
     readme_too = "--readme" in words
     given = [word for word in words if word != "--readme"]
     program = str(pathlib.Path(given[0]).resolve()) if given else str(TOP / "crates/far_trace/out/far_trace")
+    if not os.path.exists(program):
+        sys.exit(f"pages: there is no {program}, by which traces in pages are run: `scripts/far_trace </dev/null` proves and builds it, or name another")
     pages = [TOP / "README.md", TOP / "bench/README.md", *sorted(TOP.glob("docs/*.md")), *sorted(TOP.glob("crates/*/README.md"))]
     others = [TOP / "CONTRIBUTING.md"]
     known = tree()

@@ -23,7 +23,7 @@ import sys
 import tempfile
 
 ROOT = pathlib.Path(__file__).resolve().parent.parent
-FUNCTION = re.compile(r"^( *)(?:pub(?:\([^)]*\))? +)?(?:const +)?(?:unsafe +)?fn +(\w+)", re.M)
+FUNCTION = re.compile(r"^( *)(?:pub(?:\([^)]*\))? +)?(?:const +)?(?:unsafe +)?(?:extern +\S+ +)?fn +(\w+)", re.M)
 OPENS = re.compile(r"^(?:unsafe +)?impl(?:<[^>]*>)? +(?:(?P<trait>[\w:]+)(?:<.*>)? +for +)?(?P<type>\w+)|^\}", re.M)
 NAMES = re.compile(r"has no field|is not in scope|has no `|was not admitted")
 

@@ -4,11 +4,15 @@
 usage: vendor.py FOLDER CRATE..     as in vendor.py ~/mine far_pool far_map
 
 FOLDER/crates gets the crates, without tests and without the edits that their prover refuses, and FOLDER/crates.txt their lines, where it has none for them;
-beside them the licences. A crate that is there already is left as it is, and said so.
+beside them the licences, and FOLDER/docs/API-foxglovepeg.md: what may be called of the crates that were named, with each contract. A crate that is there already is
+left as it is, and said so.
 """
 import pathlib
 import shutil
 import sys
+
+sys.dont_write_bytecode = True
+import api
 
 TOP = pathlib.Path(__file__).resolve().parent.parent
 LEFT_OUT = shutil.ignore_patterns("out", "must-fail", "planted")
@@ -53,6 +57,9 @@ def main() -> int:
                 lines.write(known[crate] + "\n")
     for licence in LICENCES:
         shutil.copy(TOP / licence, folder / f"{licence}-foxglovepeg")
+    (folder / "docs").mkdir(exist_ok=True)
+    libraries = [crate for crate in dict.fromkeys(sys.argv[2:]) if (TOP / "crates" / crate / "src" / "lib.rt").exists()]
+    (folder / "docs" / "API-foxglovepeg.md").write_text(api.page(libraries))
     return 0
 
 
