@@ -1,6 +1,8 @@
 #!/usr/bin/env python3
 """Writes the texts that bench/run.sh measures to a folder: each in whole, 1 MiB, and in half.
 
+usage: generate.py FOLDER
+
 access: writes and reads of 8 bytes over a heap of 64 logs and 8 mutators.
 churn:  objects of 8 bytes are made and dropped in turn, in such a heap, until its room is used up; then both are refused.
 lines:  empty lines and comments alone.
@@ -57,13 +59,17 @@ def skipped(limit: int) -> str:
     return (pair * (limit // len(pair) + 1))[:limit]
 
 
-def main() -> None:
+def main() -> int:
+    if len(sys.argv) != 2:
+        print(__doc__.strip(), file=sys.stderr)
+        return 2
     folder = Path(sys.argv[1])
     folder.mkdir(parents=True, exist_ok=True)
     for name, limit in (("half", LIMIT // 2), ("whole", LIMIT)):
         (folder / f"access.{name}").write_text(access(limit), encoding="ascii")
         (folder / f"churn.{name}").write_text(churn(limit), encoding="ascii")
         (folder / f"lines.{name}").write_text(skipped(limit), encoding="ascii")
+    return 0
 
 
-main()
+sys.exit(main())

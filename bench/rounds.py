@@ -127,6 +127,9 @@ def far_again(command: list, size: int, written: bool) -> int:
 
 
 def main() -> int:
+    if len(sys.argv) != 3:
+        print(__doc__.strip(), file=sys.stderr)
+        return 2
     programs = [shlex.split(word) for word in sys.argv[1:3]]
     text = many_rounds()
     if output(programs[0], text) != output(programs[1], text):

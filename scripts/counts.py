@@ -44,7 +44,10 @@ def lines_of(program: str, function: str):
             yield int(found[1], 16), found[2]
 
 
-def main() -> None:
+def main() -> int:
+    if len(sys.argv) < 5:
+        print(__doc__.strip(), file=sys.stderr)
+        return 2
     program, given, function, least, *words = sys.argv[1:]
     with open("/dev/null" if given == "-" else given, "rb") as file:
         ran = counted([program, *words], file)
@@ -55,6 +58,7 @@ def main() -> None:
             print(f"{count:10} {at:x} {text}")
         elif before[0] >= int(least):
             print("       ...")
+    return 0
 
 
-main()
+sys.exit(main())

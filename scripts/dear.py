@@ -32,7 +32,10 @@ def spent(folder):
     return total
 
 
-def main():
+def main() -> int:
+    if len(sys.argv) < 2:
+        print(__doc__.strip(), file=sys.stderr)
+        return 2
     folder, *rest = sys.argv[1:]
     total = spent(pathlib.Path(folder))
     so_far = 0.0
@@ -40,6 +43,7 @@ def main():
         so_far += seconds
         print(f"{seconds:7.1f} {so_far:8.1f} {name}")
     print(f"{sum(total.values()):7.1f} seconds in all")
+    return 0
 
 
-main()
+sys.exit(main())

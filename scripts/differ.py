@@ -555,6 +555,9 @@ class Writer:
 
 
 def main() -> int:
+    if len(sys.argv) != 4:
+        print(__doc__.strip(), file=sys.stderr)
+        return 2
     program, seed, count = sys.argv[1], sys.argv[2], int(sys.argv[3])
     for number in range(count):
         text = Writer(f"{seed} {number}").text()

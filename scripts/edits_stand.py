@@ -9,6 +9,8 @@ It takes a second, and says nothing of what the prover makes of them. Prints wha
 import pathlib
 import sys
 
+from edits import planted
+
 TOP = pathlib.Path(__file__).resolve().parent.parent
 
 
@@ -57,10 +59,13 @@ def wrongs(crate: pathlib.Path, text: str) -> list:
 def main(*names: str) -> int:
     crates = [TOP / "crates" / name for name in names] or sorted((TOP / "crates").iterdir())
     stands = True
-    for edit in (it for crate in crates for folder in ("must-fail", "planted") for it in sorted((crate / folder).glob("*.edit"))):
-        for wrong in wrongs(edit.parent.parent, edit.read_text()):
-            print(f"edits_stand: {edit.relative_to(TOP / 'crates')}: {wrong}")
-            stands = False
+    for crate in crates:
+        edits = {f"must-fail/{it.stem}": it.read_text() for it in sorted((crate / "must-fail").glob("*.edit"))}
+        edits |= {f"planted: {name}": text for name, text in planted(crate).items()}
+        for name, text in edits.items():
+            for wrong in wrongs(crate, text):
+                print(f"edits_stand: {crate.name}/{name}: {wrong}")
+                stands = False
     return not stands
 
 

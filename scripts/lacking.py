@@ -39,6 +39,9 @@ def output(commands: list, nth: int) -> tuple[bytes, int]:
 
 
 def main() -> int:
+    if len(sys.argv) != 3:
+        print(__doc__.strip(), file=sys.stderr)
+        return 2
     path, folder = sys.argv[1:]
     with open(path, "rb") as text:
         commands = parse(text.read())

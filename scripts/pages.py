@@ -30,7 +30,7 @@ SPAN = re.compile(r"`([^`\n]+)`")
 NAME = re.compile(r"[A-Za-z]\w*_\w+")
 FROM_TOP = re.compile(r"(?<![\w/.*-])(?:crates|docs|scripts|bench|\.ci)/[\w./*-]*[\w/*]")
 NAMED = re.compile(r"[\w.*-]+(?:/[\w.*-]*)*")
-SUFFIXES = (".rt", ".antt", ".md", ".py", ".sh", ".c", ".trace", ".svg", ".txt", ".edit")
+SUFFIXES = (".rt", ".antt", ".md", ".py", ".sh", ".c", ".trace", ".svg", ".txt", ".edit", ".edits")
 ROW = re.compile(r"`(heap [^`]*)`(?:,? and)?\s+prints\s+`([^`]*)`|`(heap [^`]*)`: at last\s+`([^`]*)`")
 ABROAD = {"try_lock"}  # of std, called nowhere here
 wrong = []
@@ -126,7 +126,7 @@ def names_in(known: list) -> set:
     """All names that stand in a file, a page excepted, or in a path."""
     found = {name for path in known for name in NAME.findall(path)}
     for path in known:
-        if path.endswith((".rt", ".antt", ".py", ".sh", ".edit")):
+        if path.endswith((".rt", ".antt", ".py", ".sh", ".edit", ".edits")):
             found.update(NAME.findall((TOP / path).read_text()))
     return found
 

@@ -16,14 +16,11 @@ trap 'rm -rf "$work"' EXIT
 # what was checked lies in out/, and is copied too
 cp -a "$root/." "$work"
 cd "$work"
-# (edits that begin in a crate below are planted_together.py's)
-mapfile -t edits < <(grep -LE '^(file: \.\./|test: )' "crates/$crate/planted/"*.edit)
-first=$(((${share%/*} - 1) * ${#edits[@]} / ${share#*/}))
-end=$((${share%/*} * ${#edits[@]} / ${share#*/}))
-((first < end)) || exit 0
 rm -rf "crates/$crate/must-fail"
 mkdir "crates/$crate/must-fail"
-mv "${edits[@]:first:end-first}" "crates/$crate/must-fail"
+# (those that begin in a crate below are planted_together.py's)
+scripts/edits.py "$crate" "crates/$crate/must-fail" "$share"
+[[ -n "$(ls "crates/$crate/must-fail")" ]] || exit 0
 rt must-fail "$crate" 2>&1 | tee "$work/said" || true
 
 missed=0

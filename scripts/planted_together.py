@@ -22,6 +22,8 @@ import subprocess
 import sys
 import tempfile
 
+from edits import is_test, planted
+
 ROOT = pathlib.Path(__file__).resolve().parent.parent
 FUNCTION = re.compile(r"^( *)(?:pub(?:\([^)]*\))? +)?(?:const +)?(?:unsafe +)?(?:extern +\S+ +)?fn +(\w+)", re.M)
 OPENS = re.compile(r"^(?:unsafe +)?impl(?:<[^>]*>)? +(?:(?P<trait>[\w:]+)(?:<.*>)? +for +)?(?P<type>\w+)|^\}", re.M)
@@ -31,11 +33,11 @@ NAMES = re.compile(r"has no field|is not in scope|has no `|was not admitted")
 class Edit:
     """A wrong edit: its places in the sources, and the functions in which they lie."""
 
-    def __init__(self, path, crate):
-        self.name, self.places, self.functions, self.is_whole = path.stem, [], set(), True
+    def __init__(self, name, text, crate):
+        self.name, self.places, self.functions, self.is_whole = name, [], set(), True
         self.is_below = False
         file = old = ""
-        for line in path.read_text().split("\n"):
+        for line in text.split("\n"):
             if line.startswith("file: "):
                 file = line[6:].strip()
             elif line.startswith("old: "):
@@ -129,8 +131,7 @@ def main(name, *names):
         # what was checked lies in out/, and is copied too
         copy = pathlib.Path(shutil.copytree(ROOT, f"{folder}/copy", symlinks=True))
         crate = copy / "crates" / name
-        paths = [it for it in sorted((crate / "planted").glob("*.edit")) if not names or it.stem in names]
-        edits = [Edit(it, crate) for it in paths if not re.search("^test: ", it.read_text(), re.M)]
+        edits = [Edit(it, text, crate) for it, text in planted(crate).items() if not is_test(text) and (not names or it in names)]
         missed = 0
         for group in grouped([it for it in edits if it.is_whole]):
             said = checked(crate, group)

@@ -51,6 +51,9 @@ def run(program: str, library: str, count: str, refused: int) -> tuple:
 
 
 def main() -> int:
+    if len(sys.argv) != 2:
+        print(__doc__.strip(), file=sys.stderr)
+        return 2
     program, endings = sys.argv[1], {"whole": 0, "refused": 0, "memory": 0, "round": 0, "audit": 0}
     with tempfile.TemporaryDirectory() as work:
         library, count = f"{work}/fail_malloc.so", f"{work}/count"

@@ -102,10 +102,10 @@ launch 'a call with a source of tomorrow' 0 'run far_trace' "$launcher"
 launch 'a call after that' 0 '' "$work/linked/trace"
 silent 'a call after that'
 
-cp "$here/edits_stand.py" "$tree/scripts/"
+cp "$here/edits_stand.py" "$here/edits.py" "$tree/scripts/"
 mkdir "$tree/crates/far_word/planted"
 edit() { # the text of the one edit of the made-up tree that is to be replaced
-    printf 'file: src/lib.rt\nold: %s\nnew: // nothing\n' "$1" >"$tree/crates/far_word/planted/nothing.edit"
+    printf 'edit: nothing\nfile: src/lib.rt\nold: %s\nnew: // nothing\n' "$1" >"$tree/crates/far_word/planted/lib.edits"
 }
 edit '// far_word'
 "$tree/scripts/edits_stand.py" || fail 'edits_stand: an edit that can be made'

@@ -36,6 +36,9 @@ def run(library: str, *words: str, text: str = "", **asked: str) -> tuple:
 
 
 def main() -> int:
+    if len(sys.argv) != 3:
+        print(__doc__.strip(), file=sys.stderr)
+        return 2
     program, soak = sys.argv[1:3]
     with tempfile.TemporaryDirectory() as work:
         library = f"{work}/wait_split.so"
