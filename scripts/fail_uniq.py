@@ -22,7 +22,7 @@ HERE = os.path.dirname(os.path.abspath(__file__))
 LONGEST = 60
 USAGE = "usage: far_uniq [-m SIZE] [-d FOLDER] [-c] [-s] [-z] [FILE..]\n"
 TEXT = b"b\na\nb\n\nc\r\n\xff\na\n\nlast"
-BAD_WORDS = (["-x"], ["-m"], ["-m", ""], ["-m", "x"], ["-m", "K"], ["-m", "1K2"], ["-m", "-1"], ["-m", "99999999999999999999"], ["-d"], ["-d", ""], ["-z", "-q", "file"])
+BAD_WORDS = (["-x"], ["-m"], ["-m", ""], ["-m", "x"], ["-m", "K"], ["-m", "1K2"], ["-m", "-1"], ["-m", "99999999999999999999"], ["-d"], ["-d", ""], ["-z", "-q", "file"], ["-z", "no text \udcff"])
 # 2^64 bytes: more than a number of them tells.
 BAD_WORDS += (["-m", "18446744073709551616"], ["-m", "18014398509481984K"], ["-m", "17592186044416M"], ["-m", "17179869184G"])
 # What a growth that was refused is told as.
@@ -118,10 +118,11 @@ def options(program: str) -> None:
     came = run(program, "-m", "8M", "-c", text=text)
     expect("long lines by chance, counted", came == (0, counts(text), ""), came)
     came = run(program, "-s", text=TEXT)
-    told = re.fullmatch(r"far_uniq: 9 lines came, 6 were new\nfar_uniq: far side: heaps \d+ near 0 far 0 .*\n", came[2])
-    expect("what the far side did", came[:2] == (0, firsts(TEXT)) and told is not None, came)
+    told = re.fullmatch(r"(?:far_uniq: \d+ s: .*\n)*far_uniq: 9 lines came, 6 were new\nfar_uniq: far side: heaps \d+ near 0 far 0 live 0 dead 0 unused (\d+) .*\n", came[2])
+    # (12 bytes near for each line that there may be)
+    expect("what the far side did", came[:2] == (0, firsts(TEXT)) and told is not None and int(told[1]) >= 12 * 1_933_312, came)
     came = run(program, "-s", "-c", text=TEXT)
-    told = re.fullmatch(r"far_uniq: 9 lines came, 6 were new\nfar_uniq: far side: heaps \d+ near 0 far 0 .*\n", came[2])
+    told = re.fullmatch(r"(?:far_uniq: \d+ s: .*\n)*far_uniq: 9 lines came, 6 were new\nfar_uniq: far side: heaps \d+ near 0 far 0 .*\n", came[2])
     expect("what the far side did for counts", came[:2] == (0, counts(TEXT)) and told is not None, came)
 
 
@@ -244,6 +245,8 @@ def faults(program: str, library: str) -> None:
         expect(f"words {words}", came[:2] == (1, printed) and re.fullmatch(told, came[2]) is not None, came)
     came = run(program, text=TEXT, TMPDIR="none")
     expect("a TMPDIR that isn't there", came[:2] == (1, b"") and re.fullmatch(told, came[2]) is not None, came)
+    came = run(program, text=TEXT, TMPDIR="no text \udcff")
+    expect("a TMPDIR that is no text", came[:2] == (1, b"") and came[2].startswith("far_uniq: no far file: "), came)
     came = run(program, "-d", ".", text=TEXT, TMPDIR="none")
     expect("a TMPDIR that isn't there, and a folder that is", came == (0, firsts(TEXT), ""), came)
     long = b"a\nb\n" + b"x" * 131_072 + b"\nc\n"
@@ -264,6 +267,13 @@ def faults(program: str, library: str) -> None:
     came = run(program, "-m", "4M", text=text, LD_PRELOAD=library, FAIL_CALL="1500")
     told = re.fullmatch(r"far_uniq: standard input: line \d+: .*; \d+ lines were printed\n", came[2])
     expect("a far file that fails once", firsts(text).startswith(came[1]) and (came == (0, firsts(text), "") or (came[0] == 1 and told is not None)), came)
+    came = run(program, text=TEXT, LD_PRELOAD=library, FAIL_UNLINK="1")
+    expect("a far file that can't lose its name", came == (1, b"", "far_uniq: no far file: Operation not permitted (os error 1); nothing was printed\n"), came)
+    for name in [name for name in os.listdir(".") if name.startswith("far_uniq.")]:
+        os.remove(name)
+    came = run(program, "-m", "4M", text=text, LD_PRELOAD=library, FAIL_CUT="1")
+    told = re.fullmatch(r"far_uniq: standard input: line \d+: the far file can't be read; \d+ lines were printed\n", came[2])
+    expect("a far file that is cut", came[0] == 1 and firsts(text).startswith(came[1]) and told is not None, came)
     came = run(program, "-m", "4M", text=text, LD_PRELOAD=library, FAIL_FLIP="3")
     told = re.fullmatch(r"far_uniq: standard input: line \d+: the far file gave other bytes than were put there; \d+ lines were printed\n", came[2])
     expect("a far file that lies", came[0] == 1 and firsts(text).startswith(came[1]) and told is not None, came)
@@ -346,17 +356,40 @@ def pipes(program: str) -> None:
     expect("a file while it runs", not [name for name in os.listdir(".") if name.startswith("far_uniq.")], (None, b"", ""))
     ran.send_signal(signal.SIGINT)
     said = ran.stderr.read().decode()
-    told = re.fullmatch(r"far_uniq: \d+ s: 2 lines came, 1 were printed, 8 bytes\n", said)
+    # (on a busy machine the first line may be told too)
+    told = re.fullmatch(r"(far_uniq: \d+ s: 1 lines came, 0 were printed, 4 bytes\n)?far_uniq: \d+ s: 2 lines came, 1 were printed, 8 bytes\n", said)
     expect("a run that is interrupted", ran.wait(LONGEST) == -signal.SIGINT and told is not None, (ran.returncode, b"", said))
+    ran = begun(program, "-s", "-z")
+    ran.stdin.write(b"o\ne\0")
+    os.read(ran.stdout.fileno(), 100)
+    time.sleep(1.1)
+    ran.stdin.write(b"o\ne\0two\0")
+    ran.stdin.close()
+    said = ran.stderr.read().decode()
+    told = re.fullmatch(r"(far_uniq: \d+ s: 1 lines came, 0 were printed, 4 bytes\n)?far_uniq: \d+ s: 3 lines came, 1 were printed, 12 bytes\nfar_uniq: 3 lines came, 2 were new\nfar_uniq: far side: .*\n", said)
+    expect("lines that end in NUL are told", ran.wait(LONGEST) == 0 and told is not None, (ran.returncode, b"", said))
+
+
+def asked_for(program: str, library: str, lines: int, *words: str) -> int:
+    """How often a run asks for memory that has so many different lines."""
+    text = b"".join(b"%d\n" % line for line in range(lines))
+    run(program, *words, "-m", "4M", text=text, LD_PRELOAD=library, COUNT_ALLOC="count")
+    with open("count", encoding="ascii") as file:
+        return int(file.read())
 
 
 def growths(program: str, library: str) -> None:
-    """Each growth refused in turn: the run is whole, or says that there was no memory."""
+    """All memory is asked for before the first line. Each growth refused in turn: the run is whole, or says that there was no memory."""
+    for words in ((), ("-c",)):
+        few, many = asked_for(program, library, 9, *words), asked_for(program, library, 16_000, *words)
+        if few != many:
+            wrong.append(f"fail_uniq: growths of few lines and of many {words}: {few}, {many}")
+    for nth in range(1, 20):
+        came = run(program, "-m", "4M", text=TEXT, LD_PRELOAD=library, FAIL_ALLOC=str(nth), TMPDIR="none")
+        expect(f"a growth where TMPDIR isn't there, {nth}", came[:2] == (1, b"") and REFUSED.fullmatch(came[2]) is not None, came)
     text = b"".join(b"%d\n" % (line % 70) for line in range(200)) + b"last"
     for words, right in (((), firsts(text)), (("-c",), counts(text))):
-        run(program, *words, "-m", "4M", text=text, LD_PRELOAD=library, COUNT_ALLOC="count")
-        with open("count", encoding="ascii") as file:
-            asked = int(file.read())
+        asked = asked_for(program, library, 70, *words)
         endings = set()
         for nth in range(1, asked + 1):
             came = run(program, *words, "-m", "4M", text=text, LD_PRELOAD=library, FAIL_ALLOC=str(nth))

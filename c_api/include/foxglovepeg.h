@@ -225,8 +225,8 @@ int32_t far_map_begin(struct far_map *map);
 /* Tells an entry that wasn't told since far_map_begin: its key, its value, and how many bytes each has. Each is told once, in no order that is told; other calls
  * than those that end it may come between.
  *
- * FAR_CLOSED; FAR_END: each was told, or none was to be; FAR_SHORT: key or value has too little room, only the lengths are set, and the next call tells the same
- * entry; FAR_MEMORY, FAR_NO_ROOM, FAR_EPOCHS_SPENT, FAR_DEVICE: the next call tells it. No other. */
+ * FAR_CLOSED; FAR_END: each was told, or none was to be; FAR_SHORT: key or value has too little room: the lengths are set, and a buffer that has room; the next call tells
+ * the same entry; FAR_MEMORY, FAR_NO_ROOM, FAR_EPOCHS_SPENT, FAR_DEVICE: the next call tells it. No other. */
 int32_t far_map_next(struct far_map *map, uint8_t *key, size_t key_room, size_t *key_len, uint8_t *value, size_t value_room, size_t *value_len);
 
 /* What the map has: of entries of at most 4,088 bytes, and of the parts of longer values. FAR_CLOSED. What it tells isn't proved. */

@@ -1,6 +1,6 @@
 //! How often each word comes in a made-up text: a map of counters, beside std's. Then the same by handles, and what is refused.
 
-use foxglovepeg::{least_near, Error, Map, MapPlan, Worker};
+use foxglovepeg::{least_near, Error, Handle, Map, MapPlan, Worker};
 use std::collections::HashMap;
 use std::path::Path;
 
@@ -40,8 +40,28 @@ fn count(folder: Option<&Path>) -> Result<(), Error> {
     assert_eq!(told, beside.len());
     map.put(b"long", &[7; 20_000])?;
     assert!(map.get(b"long", &mut out)? && out == [7; 20_000]);
+    let (mut told, mut longest) = (0, 0);
+    map.for_each(|_, value| {
+        told += 1;
+        longest = longest.max(value.len());
+        true
+    })?;
+    assert!(told == beside.len() + 1 && longest == 20_000);
+    told = 0;
+    map.for_each(|_, _| {
+        told += 1;
+        told < 9
+    })?;
+    assert!(told == 9 && !map.is_empty());
+    let (entries, parts) = map.statistics();
+    assert!(entries.near_objects + entries.far_objects == WORDS && parts.near_objects + parts.far_objects == 5);
+    let other = map.get(b"none", &mut out)?;
+    assert!(!other && out.is_empty());
     assert!(map.remove(b"long")? && !map.remove(b"long")? && !map.contains_key(b"long")?);
     assert_eq!(map.put(&[0; 4087], b""), Err(Error::Length));
+    map.trim();
+    map.clear();
+    assert!(map.is_empty() && !map.contains_key(b"word 1")?);
     Ok(())
 }
 
@@ -54,6 +74,20 @@ fn handles(folder: &Path) -> Result<(), Error> {
     let mut out = [0; 5];
     worker.read(handle, 0, &mut out)?;
     assert!(&out == b"Jello" && &bytes == b"h");
+    worker.write(handle, 3, b"p!")?;
+    let mut part = [0; 3];
+    worker.read(handle, 2, &mut part)?;
+    assert!(&part == b"lp!" && worker.len_of(handle) == Some(5) && worker.holds(handle));
+    assert_eq!(worker.write(handle, 3, b"abc"), Err(Error::Range));
+    assert_eq!(worker.read(handle, 5, &mut part[..1]), Err(Error::Range));
+    let zeros = worker.alloc_zeros(3, 1)?;
+    worker.read(zeros, 0, &mut part)?;
+    assert!(part == [0; 3]);
+    worker.drop_object(zeros)?;
+    let all = worker.statistics();
+    assert!(all.near_objects + all.far_objects == 1 && all.accesses == 8 && all.heaps == 1);
+    worker.add_heap()?;
+    assert!(worker.statistics().heaps == 2 && !worker.holds(Handle(handle.0 ^ 1)));
     worker.drop_object(handle)?;
     assert_eq!(worker.read(handle, 0, &mut out), Err(Error::NotHeld));
     assert_eq!(worker.len_of(handle), None);
@@ -62,9 +96,18 @@ fn handles(folder: &Path) -> Result<(), Error> {
     Ok(())
 }
 
+/// How many files are mapped to be written.
+fn mapped() -> usize {
+    std::fs::read_to_string("/proc/self/maps").unwrap().matches(" rw-s ").count()
+}
+
 fn main() -> Result<(), Error> {
     let folder = std::env::temp_dir();
+    let before = mapped();
     count(None)?;
     count(Some(&folder))?;
-    handles(&folder)
+    handles(&folder)?;
+    // (what goes is closed)
+    assert_eq!(mapped(), before);
+    Ok(())
 }

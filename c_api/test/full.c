@@ -6,10 +6,12 @@
 
 #include <errno.h>
 #include <fcntl.h>
+#include <inttypes.h>
 #include <signal.h>
 #include <stdlib.h>
 #include <sys/mman.h>
 #include <sys/resource.h>
+#include <sys/stat.h>
 #include <sys/wait.h>
 #include <unistd.h>
 
@@ -36,13 +38,28 @@ static int mapped(void) {
     return count;
 }
 
+/* How many bytes of such files are in memory. */
+static uint64_t resident(void) {
+    FILE *maps = fopen("/proc/self/smaps", "r");
+    char line[4096];
+    uint64_t all = 0, some;
+    bool counts = false;
+    CHECK(maps != NULL);
+    while (fgets(line, sizeof line, maps) != NULL) {
+        if (strchr(line, '-') != NULL && strstr(line, "kB") == NULL) counts = strstr(line, " rw-s ") != NULL;
+        if (counts && sscanf(line, "Rss: %" SCNu64, &some) == 1) all += some * 1024;
+    }
+    fclose(maps);
+    return all;
+}
+
 static void fill(uint64_t number, uint8_t bytes[LEN]) {
     memset(bytes, (int)(number % 251), LEN);
     memcpy(bytes, &number, sizeof number);
 }
 
-/* Makes objects until no more leaves; then all are there, and after a few are dropped there is room. */
-static void play(struct far_worker *worker) {
+/* Makes objects until no more leaves, which so many have then; all are there, and after a few are dropped there is room. */
+static void play(struct far_worker *worker, uint64_t fits) {
     static uint64_t handles[OBJECTS];
     uint8_t bytes[LEN], out[LEN];
     uint64_t count = 0, handle = 7;
@@ -56,6 +73,7 @@ static void play(struct far_worker *worker) {
     }
     CHECK(status == FAR_NO_ROOM && count > 0 && handle == handles[count - 1]);
     CHECK(far_statistics(worker, &all) == FAR_OK && all.near_objects + all.far_objects == count && all.device_faults > 0);
+    CHECK(all.far_objects == fits);
     CHECK(far_trim(worker) == FAR_OK);
     for (uint64_t k = 0; k < count; k++) {
         fill(k, bytes);
@@ -134,6 +152,61 @@ static void sides(void) {
     CHECK(shorts.unused == NEAR && longs.unused == 8 * NEAR && far_map_close(&map) == FAR_OK);
 }
 
+/* What is resident of a file is given back by its own worker, and comes again. */
+static void trims(const char *folder) {
+    enum { BYTES = 9 << 18, SOME = 1 << 20 };
+    static uint64_t handles[2][OBJECTS];
+    struct far_worker workers[2] = {FAR_WORKER_NONE, FAR_WORKER_NONE};
+    uint8_t bytes[LEN], out[LEN];
+    for (int k = 0; k < 2; k++) {
+        CHECK(far_open_folder(&workers[k], NEAR, OBJECTS, 64, folder, BYTES) == FAR_OK);
+        for (uint64_t n = 0; n < OBJECTS; n++) {
+            fill(n, bytes);
+            CHECK(far_alloc(&workers[k], bytes, LEN, 1, &handles[k][n]) == FAR_OK);
+        }
+    }
+    uint64_t all = resident();
+    CHECK(all > 3 * SOME && far_trim(&workers[1]) == FAR_OK);
+    uint64_t first = resident();
+    CHECK(first > SOME && first < all - SOME && far_trim(&workers[1]) == FAR_OK && resident() == first);
+    CHECK(far_trim(&workers[0]) == FAR_OK && resident() == 0);
+    for (uint64_t n = 0; n < OBJECTS; n++) {
+        fill(n, bytes);
+        CHECK(far_read(&workers[n % 2], handles[n % 2][n], 0, out, LEN) == FAR_OK && memcmp(bytes, out, LEN) == 0);
+    }
+    CHECK(far_close(&workers[0]) == FAR_OK && far_close(&workers[1]) == FAR_OK && mapped() == 0);
+}
+
+/* A file is as long as was asked, in whole pages for each heap. */
+static void lengths(void) {
+    struct far_worker worker = FAR_WORKER_NONE;
+    struct far_map map = FAR_MAP_NONE;
+    struct stat told;
+    int fd = memfd_create("long", 0), other = memfd_create("longer", 0);
+    CHECK(far_open_file(&worker, 4 * NEAR, 4 * OBJECTS, 64, fd, (1 << 20) + 16383) == FAR_OK);
+    CHECK(fstat(fd, &told) == 0 && told.st_size == 1 << 20 && far_close(&worker) == FAR_OK);
+    CHECK(far_map_open_file(&map, &PLAN, other, (1 << 20) + 4095, (1 << 19) + 4095) == FAR_OK);
+    CHECK(fstat(other, &told) == 0 && told.st_size == (1 << 20) + (1 << 19) && far_map_close(&map) == FAR_OK);
+    close(fd);
+    close(other);
+}
+
+/* Each status has words of its own. */
+static void texts(void) {
+    static const struct {
+        int32_t status;
+        const char *word;
+    } WORDS[] = {{FAR_OK, "done"}, {FAR_MEMORY, "memory"}, {FAR_NO_ROOM, "room"}, {FAR_NO_POINTER, "pointers"}, {FAR_LENGTH, "4088"}, {FAR_NOT_HELD, "no such object"}, {FAR_RANGE, "range"},
+        {FAR_DEVICE, "lost"}, {FAR_DAMAGED, "another length"}, {FAR_EPOCHS_SPENT, "epoch"}, {FAR_CLOSED, "not open"}, {FAR_OPEN, "already"}, {FAR_OBJECTS, "4294967296"}, {FAR_NEAR, "near"},
+        {FAR_NO_KEY, "key"}, {FAR_SHORT, "buffer"}, {FAR_END, "entry"}, {FAR_FILE, "file"}, {FAR_FAR, "far for"}};
+    enum { ALL = sizeof WORDS / sizeof *WORDS };
+    for (int32_t status = -2; status < 40; status++) {
+        size_t k = 0;
+        while (k < ALL && WORDS[k].status != status) k++;
+        CHECK(strstr(far_status_text(status), k < ALL ? WORDS[k].word : "no status") != NULL);
+    }
+}
+
 /* As many bytes far as near: what lies near isn't in the file, where each part begins with 16 KiB that stay empty. */
 static void equal(void) {
     static uint8_t bytes[16384], zeros[16384];
@@ -152,26 +225,28 @@ static void equal(void) {
 /* A child of a fork takes memory, which may lie where the mapping was, and closes what it has of its parent: its own memory stays. */
 static void parted(const char *folder) {
     enum { BYTES = 1 << 22, PIECES = 8 };
-    struct far_worker worker = FAR_WORKER_NONE;
+    struct far_worker worker = FAR_WORKER_NONE, other = FAR_WORKER_NONE;
     uint64_t handle;
     uint8_t byte = 7;
     int status = 0;
     CHECK(far_open_folder(&worker, NEAR, OBJECTS, 64, folder, BYTES) == FAR_OK && far_alloc(&worker, &byte, 1, 1, &handle) == FAR_OK);
+    CHECK(far_open_folder(&other, NEAR, OBJECTS, 64, folder, BYTES) == FAR_OK && mapped() == 2);
     pid_t child = fork();
     if (child == 0) {
+        CHECK(mapped() == 0);
         uint8_t *own[PIECES];
         for (int k = 0; k < PIECES; k++) {
             own[k] = mmap(NULL, BYTES, PROT_READ | PROT_WRITE, MAP_PRIVATE | MAP_ANONYMOUS, -1, 0);
             memset(own[k], k + 1, BYTES);
         }
-        CHECK(far_trim(&worker) == FAR_OK && far_close(&worker) == FAR_OK && mapped() == 0);
+        CHECK(far_trim(&worker) == FAR_OK && far_close(&worker) == FAR_OK && far_close(&other) == FAR_OK && mapped() == 0);
         for (int k = 0; k < PIECES; k++) CHECK(own[k][0] == k + 1 && own[k][BYTES / 2] == k + 1 && own[k][BYTES - 1] == k + 1);
         CHECK(far_open_folder(&worker, NEAR, OBJECTS, 64, folder, BYTES) == FAR_OK && mapped() == 1 && far_close(&worker) == FAR_OK);
         _exit(0);
     }
     CHECK(child > 0 && waitpid(child, &status, 0) == child && WIFEXITED(status) && WEXITSTATUS(status) == 0);
     byte = 0;
-    CHECK(far_read(&worker, handle, 0, &byte, 1) == FAR_OK && byte == 7 && far_close(&worker) == FAR_OK && mapped() == 0);
+    CHECK(far_read(&worker, handle, 0, &byte, 1) == FAR_OK && byte == 7 && far_close(&worker) == FAR_OK && far_close(&other) == FAR_OK && mapped() == 0);
 }
 
 /* A folder that has no room. */
@@ -180,7 +255,7 @@ static void overfill(const char *folder, int why) {
     CHECK(far_open_folder(&worker, NEAR, OBJECTS, 64, folder, 1 << 22) == FAR_FILE && errno == why);
     CHECK(!worker.live && mapped() == 0);
     CHECK(far_open_folder(&worker, NEAR, OBJECTS, 64, folder, 1 << 18) == FAR_OK);
-    play(&worker);
+    play(&worker, 240);
 }
 
 /* As many as may be, and one more. */
@@ -194,16 +269,61 @@ static void crowd(const char *folder) {
     CHECK(far_close(&other) == FAR_OK && mapped() == 0);
 }
 
+static struct far_statistics statistics_of(struct far_worker *worker) {
+    struct far_statistics all;
+    CHECK(far_statistics(worker, &all) == FAR_OK);
+    return all;
+}
+
+/* Reads the first bytes of four objects. */
+static void look(struct far_worker *worker, const uint64_t handles[4]) {
+    uint8_t bytes[9];
+    for (int k = 0; k < 4; k++) CHECK(far_read(worker, handles[k], 0, bytes, sizeof bytes) == FAR_OK);
+}
+
+/* What is told of objects of 248 bytes, each 256 near: at first all are near; then some leave; four are read where they lie, are brought, and leave unchanged. */
+static void told(void) {
+    enum { BYTES = 248, SOME = 100, MORE = 700, LATER = 600 };
+    static uint64_t handles[SOME + MORE + LATER];
+    struct far_worker worker = FAR_WORKER_NONE;
+    uint8_t bytes[BYTES] = {7};
+    int made = 0;
+    CHECK(far_open_memory(&worker, NEAR, OBJECTS, BYTES) == FAR_OK);
+    while (made < SOME) CHECK(far_alloc(&worker, bytes, BYTES, 1, &handles[made++]) == FAR_OK);
+    look(&worker, handles);
+    CHECK(far_drop(&worker, handles[9]) == FAR_OK);
+    struct far_statistics all = statistics_of(&worker);
+    CHECK(all.near_objects == 99 && all.far_objects == 0 && all.live == 99 * 256 && all.dead == 256 && all.unused == NEAR - SOME * 256 && all.far_bytes == 0 && all.heaps == 1);
+    CHECK(all.accesses == 4 && all.fetches + all.looks + all.evictions + all.writes_spared + all.moves + all.rounds + all.device_faults == 0);
+    while (made < SOME + MORE) CHECK(far_alloc(&worker, bytes, BYTES, 1, &handles[made++]) == FAR_OK);
+    all = statistics_of(&worker);
+    CHECK(all.far_objects > 100 && all.near_objects == 799 - all.far_objects && all.evictions == all.far_objects && all.far_bytes == all.far_objects * BYTES && all.live == all.near_objects * 256);
+    CHECK(all.moves > 0 && all.moves < 9 && all.rounds > 0 && all.writes_spared == 0);
+    look(&worker, handles + 20);
+    all = statistics_of(&worker);
+    CHECK(all.looks == 4 && all.fetches == 0 && all.accesses == 8);
+    look(&worker, handles + 20);
+    all = statistics_of(&worker);
+    CHECK(all.looks == 4 && all.fetches == 4 && all.accesses == 12);
+    while (made < SOME + MORE + LATER) CHECK(far_alloc(&worker, bytes, BYTES, 1, &handles[made++]) == FAR_OK);
+    all = statistics_of(&worker);
+    CHECK(all.writes_spared == 4 && all.rounds > 9 && all.device_faults == 0 && far_close(&worker) == FAR_OK);
+}
+
 int main(int count, char **words) {
     struct far_worker worker = FAR_WORKER_NONE;
     struct rlimit few = {1 << 20, RLIM_INFINITY};
     if (count < 2) return 2;
     refuse(words[1]);
     CHECK(far_open_reserved(&worker, NEAR, OBJECTS, 64, 1 << 18) == FAR_OK);
-    play(&worker);
+    play(&worker, 240);
     CHECK(far_open_reserved(&worker, NEAR, OBJECTS, 64, 0) == FAR_OK);
-    play(&worker);
+    play(&worker, 0);
     crowd(words[1]);
+    trims(words[1]);
+    lengths();
+    texts();
+    told();
     equal();
     sides();
     parted(words[1]);

@@ -62,13 +62,14 @@ static void put(struct model *model, size_t number) {
 static void get(struct model *model, size_t number) {
     struct entry *entry = &model->entries[number];
     size_t key_len = key_of(model, number), told = 77, room = next(model) % 2 ? LONGEST : entry->len;
+    uint8_t behind = model->out[LONGEST - 1] = model->out[entry->len] = (uint8_t)number;
     if (!entry->there) {
-        CHECK(far_map_get(&model->map, model->key, key_len, model->out, LONGEST, &told) == FAR_NO_KEY && told == 77);
+        CHECK(far_map_get(&model->map, model->key, key_len, model->out, LONGEST, &told) == FAR_NO_KEY && told == 77 && model->out[0] == behind);
         CHECK(far_map_holds(&model->map, model->key, key_len) == FAR_NO_KEY);
         return;
     }
     CHECK(far_map_get(&model->map, model->key, key_len, model->out, room, &told) == FAR_OK && told == entry->len);
-    CHECK(memcmp(model->out, entry->value, told) == 0);
+    CHECK(memcmp(model->out, entry->value, told) == 0 && model->out[told] == behind && model->out[LONGEST - 1] == behind);
     CHECK(far_map_holds(&model->map, model->key, key_len) == FAR_OK);
     if (entry->len == 0) return;
     uint8_t other = model->out[0] = (uint8_t)~entry->value[0];
@@ -101,15 +102,29 @@ static size_t number_of(struct model *model, size_t len) {
     return model->told[0] | (size_t)model->told[1] << 8;
 }
 
+/* What has too little room is as it was, and so is what lies behind. */
+static void mark(struct model *model) {
+    memset(model->told, 177, LONGEST_KEY);
+    memset(model->out, 177, LONGEST);
+}
+
+static void is_marked(const struct model *model, size_t key_len, size_t len) {
+    for (size_t k = key_len; k < LONGEST_KEY; k++) CHECK(model->told[k] == 177);
+    for (size_t k = len; k < LONGEST; k++) CHECK(model->out[k] == 177);
+}
+
 /* Each entry is told once, in buffers that have room or haven't, with look-ups between. */
 static void walk(struct model *model) {
     size_t key_len = 77, len = 77, told = 0;
     CHECK(far_map_begin(&model->map) == FAR_OK);
     for (;;) {
         size_t key_room = next(model) % 4 == 0 ? next(model) % 60 : LONGEST_KEY, room = next(model) % 4 == 0 ? next(model) % 300 : LONGEST;
+        bool marked = next(model) % 32 == 0;
+        if (marked) mark(model);
         int32_t status = far_map_next(&model->map, model->told, key_room, &key_len, model->out, room, &len);
         if (status == FAR_END) break;
         CHECK(status == (key_len > key_room || len > room ? FAR_SHORT : FAR_OK));
+        if (marked) is_marked(model, key_len > key_room ? 0 : key_len, len > room ? 0 : len);
         if (status == FAR_SHORT) continue;
         struct entry *entry = &model->entries[number_of(model, key_len)];
         CHECK(entry->there && !entry->told && len == entry->len && memcmp(model->out, entry->value, len) == 0);
@@ -120,7 +135,9 @@ static void walk(struct model *model) {
     CHECK(told == model->count);
     for (size_t k = 0; k < KEYS; k++) model->entries[k].told = false;
     key_len = len = 77;
+    mark(model);
     CHECK(far_map_next(&model->map, model->told, 9, &key_len, model->out, 9, &len) == FAR_END && key_len == 77 && len == 77);
+    is_marked(model, 0, 0);
     CHECK(far_map_begin(&model->map) == FAR_OK);
     if (next(model) % 2) put(model, next(model) % KEYS);
     else take_out(model, next(model) % KEYS);

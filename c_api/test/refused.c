@@ -8,11 +8,14 @@
 #include <stdlib.h>
 #include <string.h>
 
-static uint64_t asked, refused, live;
+static uint64_t asked, refused, live, largest;
+static int opened_wrong, interrupted;
+static char folder[] = "/tmp/refused.XXXXXX";
 
 static void *at_most(size_t bytes, void *old) {
     if (++asked == refused) return errno = ENOMEM, NULL;
     live += old == NULL;
+    if (bytes > largest) largest = bytes;
     return realloc(old, bytes);
 }
 
@@ -25,17 +28,23 @@ static void test_free(void *at) {
 
 /* A folder that can't make a file without a name, each second time. */
 static int test_open(const char *path, int flags, int mode) {
+    opened_wrong += mode != 0600 || (flags & O_CLOEXEC) == 0;
     if (refused % 2 == 0) return open(path, flags, mode);
     errno = EOPNOTSUPP;
     return -1;
 }
 
+/* Room in a file is interrupted twice before it is taken. */
+static int test_fallocate(int fd, off_t from, off_t bytes) { return ++interrupted % 3 != 0 ? EINTR : posix_fallocate(fd, from, bytes); }
+
 #define open test_open
+#define posix_fallocate test_fallocate
 #define malloc test_malloc
 #define realloc test_realloc
 #define free test_free
 #include "../support.c"
 #undef open
+#undef posix_fallocate
 #undef malloc
 #undef realloc
 #undef free
@@ -64,8 +73,8 @@ static void play(bool in_file) {
     struct far_worker worker = FAR_WORKER_NONE;
     static uint64_t handles[OBJECTS];
     uint8_t bytes[200], out[200];
-    asked = 0;
-    if (in_file) TWICE(far_open_folder(&worker, NEAR, OBJECTS, 64, "/tmp", 1 << 22));
+    asked = largest = 0;
+    if (in_file) TWICE(far_open_folder(&worker, NEAR, OBJECTS, 64, folder, 1 << 22));
     else TWICE(far_open_memory(&worker, NEAR, OBJECTS, 64));
     for (size_t k = 0; k < OBJECTS; k++) {
         memset(bytes, (int)(k % 251), sizeof bytes);
@@ -80,7 +89,8 @@ static void play(bool in_file) {
     TWICE(far_exchange(&worker, handles[7], 0, bytes, sizeof bytes));
     CHECK(bytes[0] == 7 && bytes[199] == 7);
     TWICE(far_add_heap(&worker));
-    CHECK(far_close(&worker) == FAR_OK && live == 0 && !regions[0].taken);
+    CHECK(far_close(&worker) == FAR_OK && live == 0 && !regions[0].taken && opened_wrong == 0);
+    CHECK(in_file || largest < 1 << 20); /* in memory far bytes are taken as objects leave */
 }
 
 /* The same of a map, with a long value each 100 keys. */
@@ -89,8 +99,8 @@ static void play_map(bool in_file) {
     static uint8_t value[LONG], out[LONG];
     struct far_map map = FAR_MAP_NONE;
     size_t len = 0;
-    asked = 0;
-    if (in_file) TWICE(far_map_open_folder(&map, &PLAN, "/tmp", 1 << 22, 1 << 22));
+    asked = largest = 0;
+    if (in_file) TWICE(far_map_open_folder(&map, &PLAN, folder, 1 << 22, 1 << 22));
     else TWICE(far_map_open_memory(&map, &PLAN));
     for (uint32_t k = 0; k < KEYS; k++) {
         memset(value, (int)(k % 251), sizeof value);
@@ -103,7 +113,7 @@ static void play_map(bool in_file) {
     }
     for (uint32_t k = 0; k < KEYS; k += 50) TWICE(far_map_remove(&map, (const uint8_t *)&k, sizeof k));
     CHECK(far_map_length(&map, &len) == FAR_OK && len == KEYS - KEYS / 50);
-    CHECK(far_map_close(&map) == FAR_OK && live == 0 && !regions[0].taken);
+    CHECK(far_map_close(&map) == FAR_OK && live == 0 && !regions[0].taken && opened_wrong == 0 && largest < 1 << 20);
 }
 
 /* Plays with each growth refused in turn. */
@@ -117,9 +127,11 @@ static void refuse_each(void (*play_once)(bool), bool in_file) {
 }
 
 int main(void) {
+    CHECK(mkdtemp(folder) != NULL);
     refuse_each(play, false);
     refuse_each(play, true);
     refuse_each(play_map, false);
     refuse_each(play_map, true);
+    CHECK(rmdir(folder) == 0); /* no file is left there */
     return 0;
 }

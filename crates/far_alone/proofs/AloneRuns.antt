@@ -35,7 +35,7 @@ use Rattle.far_core.proofs.Steps.{step_does}
 use Rattle.far_alone.specs.Own.{Own, own_of, bytes_in_world}
 use Rattle.far_core.specs.events.Ranges.{after_events}
 use Rattle.far_alone.specs.EventRows.{Succeeds, AllSucceed, ComesToPass}
-use Rattle.far_alone.specs.Events.{soil_events, store_events, view_events}
+use Rattle.far_alone.specs.Events.{store_events, view_events}
 use Rattle.std.specs.List.{AllByRecursion as Each}
 
 -- ---- what a mutator knows of a world
@@ -160,10 +160,6 @@ quiet_run s (e ∷ es) law q =
 -- a view is quiet
 pub quiet_view : (s : State) (k p : ℕ) → Quiet (view_events s k p)
 quiet_view s k p = cond_both (is_some (s.held p)) [] (Pin k p ∷ []) Quiet (λ _. tt) (λ _. (tt, tt))
-
--- so is a soiling
-pub quiet_soil : (s : State) (k p : ℕ) → Quiet (soil_events s k p)
-quiet_soil s k p = cond_both (s.soiled p) [] (Soil k p ∷ []) Quiet (λ _. tt) (λ _. (tt, tt))
 
 -- ---- stores
 -- words from first on of some bytes in the place of those of others

@@ -1,35 +1,16 @@
 -- Bytes with others in the place of some: what stands where, and how wide their words are.
-use Rattle.std.proofs.Common.{◌≡◌, ℕ, zero, suc, ◌+◌, ◌-◌, ◌*◌, ◌^◌, ◌<◌, ◌≤◌, arith, ap, ◌∙◌, List, ◌++◌, length, get_or, take, drop, inl, inr}
+use Rattle.std.proofs.Common.{◌≡◌, ℕ, ◌+◌, ◌-◌, ◌*◌, ◌^◌, ◌<◌, ◌≤◌, arith, ap, ◌∙◌, List, ◌++◌, length, get_or, take, drop, inl, inr}
 use Rattle.std.proofs.lemmas.Bool.{cases_lt}
 use Rattle.std.proofs.lemmas.List.{get_or_past, get_or-take, get_or-drop, get_or_append_left, get_or-append_right, length-take-le, length-append, length-drop}
-use lib.Pow.{pow_mono}
-use Rattle.far_word.specs.Bytes.{word_at, packed_word}
+use Rattle.far_word.specs.Bytes.{packed_word}
 use Rattle.far_word.specs.Sizes.{words_for}
+use Rattle.far_book.proofs.region.Packing.{part_wide, word_wide}
 use Rattle.far_alone.specs.Objects.{with_range}
 
 -- ---- the words of bytes
 -- each of the bytes is below 256
 abbrev pub AreBytes : List ℕ → Type 0
 AreBytes bytes = (k : ℕ) → get_or bytes k 0 < 256
-
--- a word of eight bytes is 64 bits wide
-pub word_wide : (byte : ℕ → ℕ) (i : ℕ) → ((k : ℕ) → byte k < 256) → word_at byte i < 2 ^ 64
-word_wide byte i small = omega (arith, small (8 * i), small (8 * i + 1), small (8 * i + 2), small (8 * i + 3), small (8 * i + 4), small (8 * i + 5), small (8 * i + 6), small (8 * i + 7))
-
--- a word of r bytes and zeros is 8 * r bits wide
-part_wide : (byte : ℕ → ℕ) (i r : ℕ) → ((k : ℕ) → byte k < 256) → ((k : ℕ) → 8 * i + r ≤ k → byte k ≡ 0) → 0 < r → word_at byte i < 2 ^ (8 * r)
-part_wide byte i zero small none some = absurd (omega arith)
-part_wide byte i (suc zero) small none some = omega (arith, small (8 * i), none (8 * i + 1) (omega arith), none (8 * i + 2) (omega arith), none (8 * i + 3) (omega arith), none (8 * i + 4) (omega arith), none (8 * i + 5) (omega arith), none (8 * i + 6) (omega arith), none (8 * i + 7) (omega arith))
-part_wide byte i (suc (suc zero)) small none some = omega (arith, small (8 * i), small (8 * i + 1), none (8 * i + 2) (omega arith), none (8 * i + 3) (omega arith), none (8 * i + 4) (omega arith), none (8 * i + 5) (omega arith), none (8 * i + 6) (omega arith), none (8 * i + 7) (omega arith))
-part_wide byte i (suc (suc (suc zero))) small none some = omega (arith, small (8 * i), small (8 * i + 1), small (8 * i + 2), none (8 * i + 3) (omega arith), none (8 * i + 4) (omega arith), none (8 * i + 5) (omega arith), none (8 * i + 6) (omega arith), none (8 * i + 7) (omega arith))
-part_wide byte i (suc (suc (suc (suc zero)))) small none some = omega (arith, small (8 * i), small (8 * i + 1), small (8 * i + 2), small (8 * i + 3), none (8 * i + 4) (omega arith), none (8 * i + 5) (omega arith), none (8 * i + 6) (omega arith), none (8 * i + 7) (omega arith))
-part_wide byte i (suc (suc (suc (suc (suc zero))))) small none some = omega (arith, small (8 * i), small (8 * i + 1), small (8 * i + 2), small (8 * i + 3), small (8 * i + 4), none (8 * i + 5) (omega arith), none (8 * i + 6) (omega arith), none (8 * i + 7) (omega arith))
-part_wide byte i (suc (suc (suc (suc (suc (suc zero)))))) small none some = omega (arith, small (8 * i), small (8 * i + 1), small (8 * i + 2), small (8 * i + 3), small (8 * i + 4), small (8 * i + 5), none (8 * i + 6) (omega arith), none (8 * i + 7) (omega arith))
-part_wide byte i (suc (suc (suc (suc (suc (suc (suc zero))))))) small none some = omega (arith, small (8 * i), small (8 * i + 1), small (8 * i + 2), small (8 * i + 3), small (8 * i + 4), small (8 * i + 5), small (8 * i + 6), none (8 * i + 7) (omega arith))
-part_wide byte i (suc (suc (suc (suc (suc (suc (suc (suc r)))))))) small none some =
-    let more : 2 ^ 64 ≤ 2 ^ (8 * suc (suc (suc (suc (suc (suc (suc (suc r)))))))) = (let h : 64 ≤ 8 * suc (suc (suc (suc (suc (suc (suc (suc r))))))) = omega arith in pow_mono h) in
-    let low : word_at byte i < 2 ^ 64 = word_wide byte i small in
-    omega (arith, more, low)
 
 -- a word of bytes leaves zeros behind their end
 pub packed_padded : (bytes : List ℕ) (len i : ℕ) → AreBytes bytes → length bytes ≡ len → i < words_for len → packed_word bytes i < 2 ^ (8 * (len - 8 * i))

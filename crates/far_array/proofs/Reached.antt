@@ -3,10 +3,10 @@ use Rattle.std.proofs.Common.{◌≡◌, ℕ, ◌+◌, ◌<◌, ◌≤◌, Bool,
 use Rattle.std.specs.Prelude.{Result, Ok, Err, IfErr, OnOk}
 use Rattle.std.proofs.lemmas.Bool.Decides.{nat_tests}
 use Rattle.far_word.specs.declared.refused.Refused.{Refused}
-use Rattle.far_word.specs.declared.refused.Refused.TheVariants.{Length, Memory, NotHeld, Range}
+use Rattle.far_word.specs.declared.refused.Refused.TheVariants.{Length, NotHeld, Range}
 use Rattle.far_objects.specs.Far.{IsWhyUnmade, IsWhyUnreached, barred, is_length}
 use Rattle.far_objects.specs.declared.objects.TheConstants.{MOST}
-use Rattle.far_array.specs.Reasons.{IsWhyMissed, IsWhyNotMade, IsWhyUnplaced}
+use Rattle.far_array.specs.Reasons.{IsWhyMissed, IsWhyNotMade}
 
 pub on_ok : {A E : Type 0} → (r : Result A E) (P Q : Type 0) → (P → Q) → OnOk r P → OnOk r Q
 on_ok (Ok x) P Q f p = f p
@@ -33,11 +33,6 @@ missed unreached honest o why e w = at_none unreached honest why (subst (λ x. I
 
 true_false : (b : Bool) → b ≡ true → b ≡ false → ⊥
 true_false b e f = cc
-
-pub unplaced : (unmade : Refused → Type 0) (n : ℕ) (why : Refused) → is_length n ≡ true → IsWhyUnmade unmade n why → IsWhyUnplaced unmade why
-unplaced unmade n Memory e w = tt
-unplaced unmade n Length e w = true_false (is_length n) e w
-unplaced unmade n why e w = w.1
 
 pub not_made : (unmade : Refused → Type 0) (n : ℕ) (why : Refused) → is_length n ≡ true → IsWhyUnmade unmade n why → IsWhyNotMade unmade why
 not_made unmade n Length e w = true_false (is_length n) e w

@@ -1,5 +1,5 @@
 -- How many records and blocks there are.
-use Rattle.std.proofs.Common.{◌≡◌, ℕ, ◌+◌, ◌-◌, ◌*◌, ◌/◌, ◌%◌, ◌^◌, ◌<◌, ◌≤◌, min, List, length, take, sym, ◌∙◌, ap, subst, inl, inr, arith}
+use Rattle.std.proofs.Common.{◌≡◌, ℕ, ◌+◌, ◌-◌, ◌*◌, ◌/◌, ◌%◌, ◌<◌, ◌≤◌, min, List, length, take, sym, ◌∙◌, ap, subst, inl, inr, arith}
 use Rattle.std.proofs.lemmas.Bool.{cases_lt}
 use Rattle.std.proofs.lemmas.List.{length-take}
 use Rattle.std.proofs.lemmas.Nat.{le-div}
@@ -9,10 +9,6 @@ use Rattle.far_objects.specs.declared.objects.TheConstants.{MOST}
 use Rattle.far_array.specs.declared.parts.TheConstants.{MOST_BLOCKS}
 use Rattle.far_array.specs.Places.{Kept, Placed, Sound, Wrote}
 
-per_low : (f : Far) (hs : List ℕ) (per size : ℕ) → Placed f hs per size → per ≤ MOST
-per_low f hs per size placed =
-    let m : per * 1 ≤ per * size = mul-le-mul_left {m = 1} {n = size} per (omega (arith, placed.sized)) in omega (arith, m, placed.fits)
-
 pub size_low : (f : Far) (hs : List ℕ) (per size : ℕ) → Placed f hs per size → size ≤ MOST
 size_low f hs per size placed =
     let m : 1 * size ≤ per * size = mul-le-mul_right {m = 1} {n = per} size (omega (arith, placed.some)) in omega (arith, m, placed.fits)
@@ -20,11 +16,6 @@ size_low f hs per size placed =
 pub block_some : (f : Far) (hs : List ℕ) (per size : ℕ) → Placed f hs per size → 0 < per * size
 block_some f hs per size placed =
     let m : 1 * size ≤ per * size = mul-le-mul_right {m = 1} {n = per} size (omega (arith, placed.some)) in omega (arith, m, placed.sized)
-
--- no number of records is too large to be told
-pub all_fit : (f : Far) (hs : List ℕ) (per size : ℕ) → Placed f hs per size → length hs ≤ MOST_BLOCKS → per * length hs < 2 ^ 63
-all_fit f hs per size placed count =
-    let m : per * length hs ≤ MOST * length hs = mul-le-mul_right (length hs) (per_low f hs per size placed) in omega (arith, m, count)
 
 -- one record more
 module _ (bytes : List ℕ) (f g : Far) (hs gs : List ℕ) (per per2 size size2 len len2 : ℕ) (ep : per2 ≡ per) (es : size2 ≡ size) (el : len2 ≡ len) (sound : Sound f hs per size len) where

@@ -107,9 +107,6 @@ module _ (f : Far) (hs : List ℕ) (per size len : ℕ) (v : Rows) (is : rows_of
   why_unswapped r u m i j l k w = if_err r (IsWhyUnswapped (u f.honest) m) (IsWhy (barred_two v i j) (IsWhyUnswapped (u v.honest) m))
       (λ why s. far_says (barred_two v i j) (IsWhyUnswapped (u v.honest) m) why (unbarred_two i j l k) (subst (λ h. IsWhyUnswapped (u h) m why) honest_is s)) w
 
-  pub at_put_length : (n : ℕ) (F : Refused → Type 0) → n ≢ size → IsWhy (wrong_length v.size n) F Length
-  at_put_length n F ne = bars (wrong_length v.size n) F Length (length_bar v.size n (λ e. ne (e ∙ sym size_is)))
-
   pub was_set : (i : ℕ) (bytes : List ℕ) (g : Far) (gs : List ℕ) (per2 size2 len2 : ℕ) → per2 ≡ per → size2 ≡ size → len2 ≡ len → len ≤ per * length hs → i < len → f.honest ≡ true →
       Wrote i bytes f g hs gs per size → rows g gs per2 size2 len2 ≡ set v.items i bytes
   was_set i bytes g gs per2 size2 len2 ep es el room low o wrote =

@@ -58,6 +58,7 @@ use far_device::Device;
 use far_hand::Near;
 use far_log::{LogRow, Span, WalkFault, walk};
 use far_word::{HeadWord, LOG_WORDS, LONGEST, Place, PtrWord, Refused, size_of, words_for};
+pub use moving::has_evac;
 use std::alloc::Global;
 use std::marker::Model;
 

@@ -14,7 +14,7 @@ mod log_rows;
 mod number_set;
 mod order;
 
-pub use book::Book;
+pub use book::{Book, has_evac};
 pub use counts::Counts;
 pub use far_hand::{Beset, Near, Plain};
 pub use home::Home;

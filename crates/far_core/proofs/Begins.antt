@@ -88,10 +88,6 @@ same : (b : Bool) → cond b zero zero ≡ zero
 same true = refl
 same false = refl
 
--- a mask of zeros
-pub masked : (j n x : ℕ) → x ≡ 0 → cond (nat_lt j n) x 0 ≡ 0
-masked j n x e = ap (λ y. cond (nat_lt j n) y 0) e ∙ same (nat_lt j n)
-
 -- the same of rows of other values
 pub masked_row : {X : Type 0} (j n : ℕ) (d x : X) → x ≡ d → cond (nat_lt j n) x d ≡ d
 masked_row j n d x e = cond_both (nat_lt j n) x d (λ y. y ≡ d) (λ _. e) (λ _. refl)

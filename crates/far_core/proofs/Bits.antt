@@ -1,11 +1,11 @@
--- Rows of bits: one is set, one is unset, a part is cleared.
+-- Rows of bits: one is set, a part is cleared.
 use Rattle.std.proofs.Common.{◌≡◌, ◌≢◌, ℕ, ◌/◌, ◌%◌, ◌*◌, ◌^◌, ◌-◌, ◌<◌, ◌≤◌, ◌∙◌, Bool, true, false, cond, nat_eq, arith, ap, sym, refl, inl, inr, List, length, get_or, set, w64}
 use Rattle.std.specs.Prelude.{◌==◌, bit_and, bit_or}
 use Rattle.std.specs.Int.{bit_at}
 use Rattle.std.specs.Vec.{vec_len}
 use Rattle.std.proofs.lemmas.Bool.{cases_eq, cases_lt, eq-eqb, false≢true, ne_eqb}
 use Rattle.std.proofs.lemmas.List.{get_or_past, get_or-set_same, get_or-set_other}
-use Rattle.std.proofs.lemmas.Nat.Bits.{bit_at_set_same, bit_at_set_other, bit_at_clear_same, bit_at_clear_other, bit_at-zero, shr_and_one}
+use Rattle.std.proofs.lemmas.Nat.Bits.{bit_at_set_same, bit_at_set_other, bit_at-zero, shr_and_one}
 use mathlib.Core.Path.{fun_ext}
 use Rattle.far_core.specs.declared.memory.bits.Bits.{Bits}
 use Rattle.far_core.specs.state.Bits.{bit_in, word_bit}
@@ -51,10 +51,6 @@ module _ (words : List ℕ) (b w : ℕ) (inside : b / 64 < length words) (is : w
 
   pub bit_set : word_bit (set words (b / 64) (bit_or w (1 * 2 ^ (b % 64) % 2 ^ 64))) ≡ put (word_bit words) b true
   bit_set = bits_put words b _ inside true (eq-eqb _ 1 (bit_at_set_same w64 w (b % 64) small)) (λ i lt ne. bit_at_set_other w64 w (b % 64) small i ne ∙ ap (λ n. bit_at n i) is)
-
-  pub bit_unset : word_bit (set words (b / 64) (bit_and w (2 ^ 64 - 1 - 1 * 2 ^ (b % 64) % 2 ^ 64))) ≡ put (word_bit words) b false
-  bit_unset = bits_put words b _ inside false (ne_eqb _ 1 (λ h. omega (arith, h, bit_at_clear_same w64 w (b % 64) small)))
-      (λ i lt ne. bit_at_clear_other w64 w (b % 64) small i lt ne ∙ ap (λ n. bit_at n i) is)
 
 -- the words of a part are 0
 pub part_cleared : (words new : List ℕ) (n m : ℕ) → ◌≡◌ {A = ℕ → ℕ} (λ q. get_or new q 0) (λ q. cond (q / n == m) 0 (get_or words q 0)) →

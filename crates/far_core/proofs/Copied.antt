@@ -28,7 +28,6 @@ use Rattle.far_core.proofs.JobPlaces.{job_bounds}
 use Rattle.far_core.specs.declared.event.Kind.{Kind}
 use Rattle.far_core.specs.declared.event.Kind.TheVariants as kinds
 use Rattle.far_core.specs.world.WorldOf.{is_group}
-use Rattle.far_core.proofs.KeepJobs.{unworded}
 use Rattle.far_core.proofs.KeepPlace.{law_with_named}
 use Rattle.far_core.proofs.Put.{put_both, put_cases, put_cases_of}
 use Rattle.far_core.proofs.TakingSpans.{clean_at}
@@ -113,13 +112,6 @@ NoCopy k p from to = (j c : ℕ) → job_of (k.word j) ≢ Some (Finished (recor
 pub no_copy_there : (s : State) → Law s → (p : ℕ) (from to : Place) → s.starts (addr to) ≡ false → NoCopy s.copying p from to
 no_copy_there s law p from to fresh j c e = false≢true (sym fresh ∙ (law.copies.jobs.job_spans j (record { pointer = p; from = from; to = to }) (ap job_said e)).to)
 
--- nor where no job is offered
-pub no_copy_unoffered : (k : Copying) → ((j : ℕ) → k.word j ≡ 0) → (p : ℕ) (from to : Place) → NoCopy k p from to
-no_copy_unoffered k none p from to j c e = let odd : Some Empty ≡ Some (Finished (record { pointer = p; from = from; to = to }) c) = sym unworded ∙ ap job_of (sym (none j)) ∙ e in absurd cc
-
-pub none_was_copied : (s : State) (p : ℕ) (from to : Place) → NoCopy s.copying p from to → WasCopied s p from to → ⊥
-none_was_copied s p from to none (j, c, h) = none j c h.finished
-
 pub none_copied : (s : State) (p : ℕ) (from to : Place) → NoCopy s.copying p from to → copied_job s p from to ≡ None
 none_copied s p from to none = at_job (copied_job s p from to) refl where
   at_job : (o : Option ℕ) → copied_job s p from to ≡ o → o ≡ None
@@ -151,21 +143,6 @@ module _ (s t : State) (p : ℕ) (from to : Place) (copying : t.copying ≡ s.co
 
   pub copied_same : copied_job t p from to ≡ copied_job s p from to
   copied_same = λ i. cond (place_same i) (below_same JOBS i) None
-
-  pub was_copied_same : WasCopied t p from to → WasCopied s p from to
-  was_copied_same (j, c, h) = (
-    j,
-    c,
-    record {
-      low = h.low;
-      lies = sym cell ∙ h.lies;
-      finished = ap (λ (k : Copying). job_of (k.word j)) (sym copying) ∙ h.finished;
-      good = (
-        ap (λ (k : Copying). k.since j) (sym copying) ∙ h.good.0 ∙ epoch,
-        ap (λ (f : ℕ → Bool). f from.log) (sym round) ∙ h.good.1,
-      );
-    },
-  )
 
 -- ---- the copy is named
 module _ (s : State) (law : Law s) (p new len ds : ℕ) (from to : Place) (m : Marks) (j c : ℕ) (h : IsCopied s p from to j c)

@@ -1,15 +1,14 @@
 -- The words of copiers: a row of a log's length for each.
-use Rattle.std.proofs.Common.{◌≡◌, ◌≢◌, ℕ, ◌+◌, ◌-◌, ◌*◌, ◌<◌, ◌≤◌, ◌∙◌, true, cond, nat_lt, refl, sym, ap, arith, inl, inr, List, ◌++◌, length, take, get_or, Some, None}
+use Rattle.std.proofs.Common.{◌≡◌, ◌≢◌, ℕ, ◌+◌, ◌-◌, ◌*◌, ◌<◌, ◌≤◌, ◌∙◌, cond, nat_lt, refl, sym, ap, arith, inl, inr, List, ◌++◌, length, take, get_or}
 use Rattle.std.specs.Prelude.{◌⊎◌, replicate}
 use Rattle.std.proofs.lemmas.List.{get_or-append_right, get_or_append_left, get_or-set_other, get_or-set_same, get_or-take, get_or_past, length-take}
-use Rattle.std.proofs.lemmas.Bool.{cases_eq, cases_lt, cond_both, le-ltb, lt-ltb, ltb-true, true_from_ne_false}
+use Rattle.std.proofs.lemmas.Bool.{cases_eq, cases_lt, cond_both, le-ltb, lt-ltb, ltb-true}
 use Rattle.std.proofs.Math.ListN.{set}
 use Rattle.std.specs.Vec.{with_items}
 use Rattle.std.specs.declared.vec.Vec.{Vec}
 use borrow.Rule.Slice.PartMut.{put_mid, mid_of}
 use mathlib.Core.Path.{fun_ext}
 use Rattle.far_word.specs.declared.sizes.TheConstants.{LOG_WORDS}
-use Rattle.far_core.specs.declared.event.Task.{Task}
 use Rattle.far_core.specs.declared.memory.jobs.Jobs.{Jobs}
 use Rattle.far_core.specs.state.CopierRows.{EmptyBehind}
 use Rattle.far_core.specs.state.Memory.{copying_of}
@@ -22,10 +21,6 @@ use Rattle.far_core.proofs.Rows.{filled_in, filled_out}
 pub has_copiers : (k : Jobs) → (copying_of k).has_copiers ≡ k.has_copiers
 unfolding copying_of
 has_copiers k = refl
-
--- a copier has a job only where copiers may have any
-pub task_says : (k : Jobs) (c : ℕ) (t : Task) → get_or k.tasks c None ≡ Some t → k.has_copiers ≡ true
-task_says k c t is = true_from_ne_false k.has_copiers (λ no. let odd : None ≡ Some t = sym (k.tasked no c) ∙ is in cc)
 
 -- rows of a log's length each
 abbrev pub rows_of : {X : Type 0} → (ℕ → X) → X → ℕ → ℕ → X

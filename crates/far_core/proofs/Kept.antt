@@ -1,7 +1,7 @@
 -- What an event other than a naming does to what is stored: nothing. And a naming that sends nothing far.
 use Rattle.std.proofs.Common.{◌≡◌, ◌≢◌, ◌<◌, ℕ, Bool, List, length, true, false, cond, Option, Some, None, refl, sym, ap, subst, ◌∙◌, inl, inr}
 use Rattle.std.specs.Prelude.{◌*◌, ◌||◌, not}
-use Rattle.std.proofs.lemmas.Bool.{cond_both, eq-eqb, ne_eqb, false≢true}
+use Rattle.std.proofs.lemmas.Bool.{cond_both, eq-eqb, false≢true}
 use Rattle.std.proofs.lemmas.List.Folds.{list_all_at}
 use Rattle.std.proofs.Math.ListN.{get_or}
 use Rattle.std.specs.List.{list_all}
@@ -85,11 +85,6 @@ not_naming s (Collect j old) h = either s _ s _ refl refl
 pub next_stored : (s : State) (e : Event) → is_naming e ≡ false → (next_state s e).stored ≡ s.stored
 unfolding next_state
 next_stored s e h = not_naming s e h
-
--- a naming whose word isn't found changes nothing, and one that finds it does what its form says
-pub name_lost : (s : State) (p old new : ℕ) → s.cell p ≢ old → (next_state s (Name p old new)).stored ≡ s.stored
-unfolding next_state
-name_lost s p old new ne = ap (λ (b : Bool). (cond b (after_naming s p new (naming_of (read_of old) (read_of new))) s).stored) (ne_eqb (s.cell p) old ne)
 
 pub name_won : (s : State) (p old new : ℕ) → s.cell p ≡ old → next_state s (Name p old new) ≡ after_naming s p new (naming_of (read_of old) (read_of new))
 unfolding next_state

@@ -50,10 +50,6 @@ module _ (s t : State) (r : Reply) (e : Event) (law : Law s) (fits : Fits e) (is
 
 -- ---- one step that was made where it could be told, and refused where not
 module _ (s t : State) (r : Reply) (e : Event) (law : Law s) where
-  pub law_told : (told : Bool) → (told ≡ true → Fits e) → (told ≡ true → (t, r) ≡ step_of s e) → (told ≡ false → (t ≡ s) × (r ≡ Refused)) → Law t
-  law_told true fits is un = (passes s t r e law (fits refl) (is refl)).law
-  law_told false fits is un = subst Law (sym (un refl).0) law
-
   pub happens_told : (told : Bool) → (told ≡ true → Fits e) → (told ≡ true → (t, r) ≡ step_of s e) → (told ≡ false → (t ≡ s) × (r ≡ Refused)) → Happens (world_of s) e r (world_of t)
   happens_told true fits is un = happens s t r e law (fits refl) (is refl)
   happens_told false fits is un =

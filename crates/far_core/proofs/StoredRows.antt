@@ -1,12 +1,12 @@
 -- Stored words: a row for each pointer that has one.
-use Rattle.std.proofs.Common.{◌≡◌, ℕ, suc, ◌+◌, ◌-◌, ◌*◌, ◌<◌, ◌≤◌, ◌≢◌, ◌∙◌, cond, nat_lt, arith, ap, sym, subst, inl, inr, List, [], ◌∷◌, ◌++◌, length, drop, take, get_or}
-use Rattle.std.specs.Prelude.{◌⊎◌, replicate, slice_range}
+use Rattle.std.proofs.Common.{◌≡◌, ℕ, suc, ◌+◌, ◌-◌, ◌*◌, ◌<◌, ◌≤◌, ◌≢◌, ◌∙◌, cond, nat_lt, arith, ap, sym, subst, inl, inr, List, [], ◌∷◌, ◌++◌, length, take, get_or}
+use Rattle.std.specs.Prelude.{◌⊎◌, replicate}
 use Rattle.std.specs.List.{sum_by}
 use Rattle.std.specs.Vec.{vec_capacity, vec_len, with_items}
 use Rattle.std.specs.declared.vec.Vec.{Vec}
 use borrow.Rule.Slice.PartMut.{put_mid}
 use Rattle.std.proofs.lemmas.Bool.{cases_eq, cases_lt, lt-ltb, le-ltb}
-use Rattle.std.proofs.lemmas.List.{get_or-take, get_or-drop, get_or_past, get_or-set_same, get_or-set_other, length-drop, length-take-le, length-set}
+use Rattle.std.proofs.lemmas.List.{get_or_past, get_or-set_same, get_or-set_other, length-set}
 use Rattle.std.proofs.lemmas.List.Sums.{sum_by-cons, sum_by-set}
 use Rattle.std.proofs.Math.ListN.{set}
 use mathlib.Core.Path.{fun_ext}
@@ -14,10 +14,8 @@ use Rattle.far_word.specs.declared.sizes.TheConstants.{LOG_WORDS}
 use Rattle.far_core.specs.declared.memory.stored_rows.Row.{Row}
 use Rattle.far_core.specs.declared.memory.stored_rows.StoredRows.{StoredRows}
 use Rattle.far_core.specs.events.Ranges.{with_row}
-use Rattle.far_core.specs.events.namings.Evicts.{with_kept}
 use Rattle.far_core.specs.state.Rows.{AreApart, HalfOrAll, RowsAreApart, RowsFit, RowsSized, no_row, room_in, row_at, row_word, with_first}
 use Rattle.far_core.specs.state.State.{put}
-use Rattle.far_core.specs.state.StoredRows.{stored_in}
 use Rattle.far_core.proofs.Put.{put_both}
 use Rattle.far_core.proofs.CopierRows.{none_behind}
 use Rattle.far_core.proofs.Rows.{row_in, row_out, row_written}
@@ -42,25 +40,8 @@ at_most room sized = elim (cases_lt LOG_WORDS (2 * room)) [
 ]
 
 -- ---- what no row has
-pub stored_past : (rows : StoredRows) (p i : ℕ) → length rows.row_of.items ≤ p → stored_in rows p i ≡ 0
-unfolding stored_in
-stored_past rows p i le = ap (λ row. row_word rows.words.items row i) (get_or_past rows.row_of.items p no_row le) ∙ word_past rows.words.items no_row i (omega arith)
-
-pub stored_behind : (rows : StoredRows) (p i : ℕ) → LOG_WORDS ≤ i → stored_in rows p i ≡ 0
-unfolding stored_in
-stored_behind rows p i le = word_past rows.words.items (row_at rows.row_of.items p) i (omega (arith, at_most _ (rows.sized p), le))
-
 -- where no pointer has a row nothing is stored
 module _ (row_of : List Row) (none : (p : ℕ) → row_at row_of p ≡ no_row) where
-  pub none_sized : RowsSized row_of
-  none_sized p more = omega (arith, ap room_in (none p), more)
-
-  pub none_fit : (end : ℕ) → RowsFit end row_of
-  none_fit end p = subst (λ (row : Row). row.start + row.room ≤ end) (sym (none p)) (omega arith)
-
-  pub none_apart : RowsAreApart row_of
-  none_apart p q ne before = omega (arith, ap room_in (none p), ap (λ (row : Row). row.start) (none p), before)
-
   pub none_stored : (words : List ℕ) (p i : ℕ) → row_word words (row_at row_of p) i ≡ 0
   none_stored words p i = word_past words (row_at row_of p) i (omega (arith, ap room_in (none p)))
 
@@ -90,27 +71,6 @@ module _ (row_of : List Row) (p : ℕ) (row : Row) (inside : p < length row_of) 
   more_sized sized own q = elim (cases_eq q p) [
     | inl e ↦ subst (λ (x : Row). HalfOrAll x.room) (sym (here q e)) own
     | inr ne ↦ subst (λ (x : Row). HalfOrAll x.room) (sym (there q ne)) (sized q)
-  ]
-
-  pub more_fit : (old new : ℕ) → RowsFit old row_of → old ≤ new → row.start + row.room ≤ new → RowsFit new more
-  more_fit old new fit up own q = elim (cases_eq q p) [
-    | inl e ↦ subst (λ (x : Row). x.start + x.room ≤ new) (sym (here q e)) own
-    | inr ne ↦ subst (λ (x : Row). x.start + x.room ≤ new) (sym (there q ne)) (omega (arith, fit q, up))
-  ]
-
-  of_both : (a b : ℕ) (x y : Row) → row_at more a ≡ x → row_at more b ≡ y → AreApart x y → AreApart (row_at more a) (row_at more b)
-  of_both a b x y e f apart = subst (λ (z : Row). AreApart z (row_at more b)) (sym e) (subst (AreApart x) (sym f) apart)
-
-  pub more_apart : (end : ℕ) → RowsFit end row_of → end ≤ row.start → RowsAreApart row_of → RowsAreApart more
-  more_apart end fit last apart a b ne = elim (cases_eq a p) [
-    | inl e ↦ elim (cases_eq b p) [
-      | inl f ↦ absurd (ne (e ∙ sym f))
-      | inr other ↦ of_both a b row (row_at row_of b) (here a e) (there b other) (λ _. omega (arith, fit b, last))
-    ]
-    | inr other ↦ elim (cases_eq b p) [
-      | inl f ↦ of_both a b (row_at row_of a) row (there a other) (here b f) (λ before. omega (arith, fit a, last, before))
-      | inr third ↦ of_both a b (row_at row_of a) (row_at row_of b) (there a other) (there b third) (apart a b ne)
-    ]
   ]
 
   -- one of at least twice the room pays for what is left
@@ -211,17 +171,3 @@ module _ {Z : Type 0} (xs : List ℕ) (v : Vec ℕ Z) (hs ys zs : List ℕ) (a m
 
   pub behind_end : (q : ℕ) → m + c ≤ q → get_or (with_items v (put_mid a k hs ys)).items q 0 ≡ 0
   behind_end q le = now_there q ∙ row_out (λ q. get_or xs q 0) a (length zs) (λ i. get_or zs i 0) q (inr (omega (arith, end, long, le))) ∙ get_or_past xs q 0 (omega (arith, le, len))
-
--- ---- words that are a part of others
--- a part of a list has as many words as are taken
-pub part_long : (xs : List ℕ) (a n : ℕ) → a + n ≤ length xs → length (slice_range xs a (a + n)) ≡ n
-part_long xs a n fits = length-take-le (a + n - a) (drop a xs) (omega (arith, length-drop a xs)) ∙ omega arith
-
--- the part from a on is kept as its words are
-pub part_kept : (xs : List ℕ) (stored : ℕ → ℕ → ℕ) (p a n : ℕ) → a + n ≤ length xs →
-    with_first (length (slice_range xs a (a + n))) (λ i. get_or (slice_range xs a (a + n)) i 0) (stored p) ≡ with_kept (λ i. get_or xs i 0) stored p a n
-part_kept xs stored p a n fits = ap (λ m. with_first m (λ i. get_or (slice_range xs a (a + n)) i 0) (stored p)) (part_long xs a n fits)
-    ∙ fun_ext (λ j. elim (cases_lt j n) [
-      | inl lt ↦ within n _ _ j lt ∙ get_or-take (a + n - a) (drop a xs) j 0 (omega arith) ∙ get_or-drop a xs j 0 ∙ sym (within n (get_or xs (a + j) 0) (stored p j) j lt)
-      | inr le ↦ beyond n _ _ j le ∙ sym (beyond n (get_or xs (a + j) 0) (stored p j) j le)
-    ])

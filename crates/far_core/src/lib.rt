@@ -18,5 +18,6 @@ pub use machine::laws::{
     copies_are_taken, events_leave_others, jobs_stand_by_law, namings_are_plain, opening_is_start,
     refusals_are_said, scopes_show, sets_of_logs, steps_keep_views,
 };
+pub use memory::{in_use, names_place};
 pub use naming::Naming;
 pub use shape::Shape;

@@ -28,6 +28,8 @@ use crate::memory::bits::Bits;
 use crate::memory::jobs::Jobs;
 use crate::memory::stored::Stored;
 use crate::memory::words::Words;
+pub use book::names_place;
+pub use reading::in_use;
 
 /// The words and views. All its memory is taken when it is made.
 #[derive(Drop)]

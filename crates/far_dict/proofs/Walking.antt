@@ -1,5 +1,5 @@
 -- Entries told one by one.
-use Rattle.std.proofs.Common.{◌≡◌, ℕ, zero, suc, ◌+◌, ◌<◌, Bool, true, false, Option, Some, None, List, [], ◌∷◌, ◌++◌, ◌&&◌, length, drop, map as each, append_assoc, refl, sym, ◌∙◌, ap, subst, arith}
+use Rattle.std.proofs.Common.{◌≡◌, ℕ, zero, suc, ◌+◌, ◌<◌, Bool, true, false, Option, Some, None, List, [], ◌∷◌, ◌++◌, ◌&&◌, length, drop, map as each, refl, sym, ◌∙◌, ap, subst, arith}
 use Rattle.std.specs.Prelude.{MatchOption, nat_le, slice_get, slice_index_or, if◌then◌else◌}
 use Rattle.std.specs.Ordering.{nat_cmp}
 use Rattle.std.specs.Cmp.Lexicographic.{slice_cmp}
@@ -7,11 +7,10 @@ use Rattle.std.specs.FinMap as map
 use Rattle.std.specs.List.Sorted.{IsStrictlySortedBy}
 use Rattle.std.specs.Map.{keys_of}
 use Rattle.std.proofs.lemmas.Bool.{both_ways}
-use Rattle.std.proofs.lemmas.List.{append-nil, map-append}
 use Rattle.far_objects.specs.Far.{Far}
 use Rattle.far_large.specs.Parts.{Parts}
 use Rattle.far_map.specs.Entries.{Entry}
-use Rattle.far_map.specs.Table.{Entries, Table}
+use Rattle.far_map.specs.Table.{Table}
 use Rattle.far_map.specs.Walks.{TellsNext, Walked as ShortWalked}
 use Rattle.far_map.proofs.EachOnce.{entries_told}
 use Rattle.far_dict.specs.Longs.{entries_of, valued}
@@ -28,14 +27,6 @@ module _ {K : Type 0} (key : K → List ℕ) where
 
   pub begun : (all iter : List (K × Parts)) (ns : List K) → ns ≡ [] → iter ≡ all → IsStrictlySortedBy (λ x y. slice_cmp nat_cmp (key x) (key y)) (keys_of all) → each key ns ++ heads iter ≡ map.keys (names_in key all)
   begun all iter ns none same ordered = (λ i. each key (none i) ++ heads (same i)) ∙ ap (each (λ e. e.0)) (sym (row_entries key all ordered))
-
-  pub pushed : (ns ms : List K) (n : K) (iter rest : List (K × Parts)) (e : K × Parts) (keys : List (List ℕ)) → ms ≡ ns ++ (n ∷ []) → key n ≡ key e.0 → iter ≡ e ∷ rest → each key ns ++ heads iter ≡ keys → each key ms ++ heads rest ≡ keys
-  pushed ns ms n iter rest e keys more is split so =
-      ap (λ xs. each key xs ++ heads rest) more ∙ ap (λ xs. xs ++ heads rest) (map-append key ns (n ∷ [])) ∙ append_assoc (each key ns) (key n ∷ []) (heads rest)
-      ∙ (λ i. each key ns ++ (is i ∷ heads rest)) ∙ ap (λ es. each key ns ++ heads es) (sym split) ∙ so
-
-  pub finished : (ns : List K) (iter : List (K × Parts)) (keys : List (List ℕ)) → iter ≡ [] → each key ns ++ heads iter ≡ keys → each key ns ≡ keys
-  finished ns iter keys none so = sym (append-nil (each key ns)) ∙ ap (λ es. each key ns ++ heads es) (sym none) ∙ so
 
 heads_valued : (far : Far) (es : List (List ℕ × Parts)) → each (λ (e : Entry). e.0) (valued far es) ≡ each (λ (e : List ℕ × Parts). e.0) es
 heads_valued far [] = refl

@@ -9,14 +9,21 @@ ghost use Rattle.far_dict.specs.Dictionaries.{IsHonest};
 use crate::dict::Dict;
 use far_objects::Objects;
 use far_word::Refused;
+use std::fmt;
 
-/// What of the map is near.
+/// What of the map is near. As one line that of the short entries, and ` long 2`.
 #[derive(Clone, Copy, Debug, PartialEq, Eq)]
 pub struct Statistics {
     /// The entries that an object has room for.
     pub short: far_map::Statistics,
     /// How many entries are longer.
     pub long: usize,
+}
+
+impl fmt::Display for Statistics {
+    fn fmt<W: fmt::Write>(&self, f: &mut fmt::Formatter<W>) -> fmt::Result {
+        write!(f, "{} long {}", self.short, self.long)
+    }
 }
 
 impl<O: Objects + Drop> Dict<O> {

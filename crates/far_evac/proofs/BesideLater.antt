@@ -45,7 +45,3 @@ not_same false b e = refl
 
 pub in_front : (o : Option PtrWord) (len ds : ℕ) (place : Place) (m : Marks) → o ≡ Some (Near len ds place m) → (l at : ℕ) → place.at < at → (k : ℕ) → at ≤ k → names_place o l k ≡ false
 in_front o len ds place m near l at lt k le = ap (λ o. names_place o l k) near ∙ not_same (place.log == l) (place.at == k) (ne_eqb place.at k (λ e. omega (arith, e, lt, le)))
-
--- one that lies in another log names none here
-pub elsewhere : (o : Option PtrWord) (len ds : ℕ) (place : Place) (m : Marks) → o ≡ Some (Near len ds place m) → (l : ℕ) → place.log ≢ l → (k : ℕ) → names_place o l k ≡ false
-elsewhere o len ds place m near l ne k = ap (λ o. names_place o l k) near ∙ ap (λ b. b && (place.at == k)) (ne_eqb place.log l ne)

@@ -30,9 +30,6 @@ use Rattle.far_evac.proofs.Marks.{IsNearWord, all_near, clear_sets, mark_sets}
 abbrev with_evac : ℕ → ℕ
 with_evac w = bit_or w (2 ^ position Evac)
 
-bare : Marks → Marks
-bare m = record { hot = m.hot; evac = false; moved = m.moved; dropped = m.dropped; dirty = m.dirty }
-
 -- ---- one word: the same change in a known word and in a found one
 module _ (v w old new len ds : ℕ) (place : Place) (m n : Marks) (finds : Finds v w) (known : read_of v ≡ Some (Near len ds place m)) (found : read_of w ≡ Some (Near len ds place n)) where
   hot_up : m.hot ≡ true → n.hot ≡ true

@@ -2,12 +2,9 @@ pub mod Accessed
 pub mod Ageing
 pub mod Asking
 pub mod Auditing
-pub mod BesideCollected
 pub mod BesideDealt
-pub mod BesideFewer
 pub mod BesideKept
 pub mod BesideLater
-pub mod BesideLeft
 pub mod BesideOver
 pub mod BesideRounds
 pub mod BesideSteps

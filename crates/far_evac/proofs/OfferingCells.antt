@@ -189,10 +189,6 @@ module _ (s : State) (law : Law (own_part s)) where
         at_first : (m : Marks) × (read_of (s.cell job.pointer) ≡ Some (Near n.len n.ds job.from m))
         at_first = was (subst (StaysOrLeft job.pointer) found_here (found_cells job.pointer))
 
-        -- the copy lies on the layout
-        pub layout_to : IsPtr (Near n.len n.ds job.to no_marks)
-        layout_to = layout k job at_start good_start job.pointer n.len n.ds at_first.0 at_first.1
-
         abbrev new : ℕ
         new = near_word n.marks.dirty n.len n.ds job.to
 

@@ -213,16 +213,6 @@ module _ (logs past : List ℕ) (l : ℕ) (ls : List ℕ) (parts : past ++ l ∷
     once = joined_once kept (l ∷ ls) h.once (last_parts past (l ∷ ls) once_parts) (λ k before behind. apart_parts past (l ∷ ls) once_parts k (h.again k before).0 behind);
   }
 
--- ---- all of them
-pub walks_all : (s t : State) (logs past kept : List ℕ) → past ≡ logs → KeepsAhead s past kept t → KeepsRound s logs kept t
-walks_all s t logs past kept same h = record {
-  clear = h.clear;
-  mutators = h.mutators;
-  round = λ l is. let was = h.round l is in (was.0, λ met. was.1 (ap (λ ks. among ks l) same ∙ met));
-  again = λ l is. let was = h.again l is in (sym (ap (λ ks. among ks l) same) ∙ was.0, was.1);
-  once = h.once;
-}
-
 -- ---- before the log with this index
 pub record IsBefore (s t : State) (logs : List ℕ) (i l : ℕ) : Type 0 where
   pub front : drop i logs ≡ l ∷ drop (i + 1) logs

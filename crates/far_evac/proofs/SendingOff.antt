@@ -177,9 +177,6 @@ module _ (s : State) (p : ℕ) (q : IsQuietNear s p) (law : Law (own_part s)) (e
     pub goal_is : goal u p ≡ room s (size_of q.len) false
     goal_is = goal_there u p (quiet_here w finds u is) q.len q.ds q.place here_evac.marks here_evac.near (here_evac.same ∙ wanted) ∙ ap (λ (x : State). room x (size_of q.len) false) is
 
-    moved_is_moved : (place : Place) → moved_now u p place ≡ moved u p place
-    moved_is_moved place = ap (λ b. cond b (moved u p place) (stayed u p)) (evac_found w finds u is)
-
     order_is : (place : Place) → order_moved u p order place ≡ order_after s order place
     order_is place = ap (λ b. cond b (order_after u order place) order) (evac_found w finds u is) ∙ ap (λ (x : State). order_after x order place) is
 

@@ -1,5 +1,8 @@
 //! What the evacuator's calls answer.
 
+ghost use Rattle.std.specs.Prelude.{◌≡◌, false};
+ghost use Rattle.far_evac.specs.Moment.{nothing, progress_of};
+
 use crate::phase::Phase;
 use far_word::Refused;
 use std::fmt;
@@ -36,6 +39,21 @@ pub struct Progress {
     pub freed: u64,
     /// Whether each chosen log was given back, so that the round is over.
     pub done: bool,
+}
+
+impl Progress {
+    /// Nothing was done, and the round isn't over.
+    pub fn nothing() -> Progress
+        ensures { result ≡ progress_of nothing false }
+    {
+        Progress {
+            moved: 0,
+            far: 0,
+            dropped: 0,
+            freed: 0,
+            done: false,
+        }
+    }
 }
 
 impl fmt::Display for Progress {

@@ -2,7 +2,7 @@
 
 ghost use Rattle.std.specs.Prelude.{◌≡◌};
 ghost use Rattle.far_evac.specs.Copied.{CopiedIsAllowed};
-ghost use Rattle.far_evac.specs.CopiedBack.{CopiedComesBack, LeftHasJobs};
+ghost use Rattle.far_evac.specs.CopiedBack.{CopiedComesBack};
 ghost use Rattle.far_evac.specs.Callers.{CallersSealBehind, CoresJoin, FetchingOrder, FetchingStepsAside, MovingOrder, MovingStepsAside, OwnersStepAside, PlacingOrder, PlacingStepsAside, RetiringOrder, RetiringStepsAside, StepsJoin, StepsKeep, StillOrder, StillStepsAside};
 ghost use Rattle.far_evac.specs.Leading.{AbortingLeads, ChoiceIsOfSealed, MarkingLeads, PollingLeads, RoundLeads, SelectingLeads, TurnsLead, WalkingLeads};
 ghost use Rattle.far_evac.specs.Owned.{AbortingKeepsObjects, MarkingKeepsObjects, PollingKeepsObjects, RoundKeepsObjects, SelectingKeepsObjects, TurnsKeepObjects, TurnsRetireNone, WalkRetiresNone, WalkingKeepsObjects};
@@ -15,7 +15,7 @@ ghost use Rattle.far_evac.specs.TakesRoom.{CallTakesRoom, RoundTakesRoom, RoundT
 ghost use Rattle.far_evac.specs.WayLaws.{JobsArePassedOver, ObjectsGoBesideCopiers, ObjectsGoTheirWay};
 ghost use Rattle.far_evac.specs.Laws.{CensusIsExact, ClearIsShown, ClearMeansUnviewed, ClearViewsNothing, DealingIsInOrder, ExactIsAllowed, GivingUpIsRight, LooksSeeClear, MarkingIsCounted, MarkingIsRight, PollIsAllowed, PollIsOnce, RisenIsReady, RoundIsAllowed, RoundIsEvent, TurnIsAllowed, WaitIsNamed, WaitingStays, WalkIsTour, WalksJoin};
 ghost use Rattle.far_evac.specs.worked.AsCalled.{AsCalled};
-ghost use Rattle.far_evac.specs.worked.Copied.{CleanIsOffered, CopierByHand, DroppedIsPassedOver, DroppedIsRetired, DroppedMeanwhile, NoJobIsEmpty, NoRoomForCopies, OffersAreTakenBack, OneAtATime, OtherLogsGoOn, OwnerFirst, PassesOnAtNone};
+ghost use Rattle.far_evac.specs.worked.Copied.{CleanIsOffered, CopierByHand, DroppedIsPassedOver, DroppedIsRetired, DroppedMeanwhile, EachLogComesBack, NoJobIsEmpty, NoRoomForCopies, OffersAreTakenBack, OneAtATime, OtherLogsGoOn, OwnerFirst, PassesOnAtNone};
 ghost use Rattle.far_evac.specs.worked.Rows.{EmptiestIsFirst, EpochsAreNamed, FirstLiesFirst, GivenUp, HotWithoutRoom, LastEpoch, NothingToChoose, OldEpoch, OldView, OldestIsFirst, OpenScopeIsWaitedFor, OpenedAnew, OwnerIsFirst, PhasesAreKept, PlainRound, ReserveIsKept, StepByStep, TurnsRunOut};
 
 /// The exact evacuation, over words that nobody else changes, is one of those that are allowed over any hand.
@@ -261,11 +261,9 @@ pub fn copied_is_allowed()
 {}
 
 /// Where copies may be offered, over any hand: what an evacuation leaves of the collection set are some of its logs, in their order. The others are counted as given
-/// back, and each of them is out of the round. Where it may deal with all objects that lay there, whatever still lies in a log that is left has a job that isn't void, and
-/// each log that is left is one that a job reads or writes.
+/// back, and each of them is out of the round.
 pub fn copied_comes_back()
-    ensures back { CopiedComesBack }
-    ensures left { LeftHasJobs }
+    ensures { CopiedComesBack }
 {}
 
 /// Worked examples where copies may be offered: copiers' events stand in the lists too.
@@ -282,4 +280,5 @@ pub fn copies_are_so()
     ensures dropped_meanwhile { DroppedMeanwhile }
     ensures taken_back { OffersAreTakenBack }
     ensures no_job { NoJobIsEmpty }
+    ensures each_log { EachLogComesBack }
 {}

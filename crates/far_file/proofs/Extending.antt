@@ -10,9 +10,6 @@ alike old new below same law = record {
   low = λ p. subst (λ e. e < below) (sym (same p)) (law.low p);
 }
 
-pub kept_alike : (old new : List ℕ) → ((p : ℕ) → slice_index new p ≡ slice_index old p) → KeepsExtents old new
-kept_alike old new same = λ p there. same p
-
 -- a place that is set, and each other
 abbrev Set : List ℕ → ℕ → ℕ → ℕ → Type 0
 Set xs i e p = ((p ≡ i) × (slice_index (set xs i e) p ≡ e)) ⊎ (slice_index (set xs i e) p ≡ slice_index xs p)

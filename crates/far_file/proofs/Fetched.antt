@@ -1,5 +1,5 @@
 -- Bytes that come back from a slot.
-use Rattle.std.proofs.Common.{◌≡◌, ◌∙◌, ◌<◌, ◌++◌, sym, subst, refl, ℕ, Bool, true, false, List, length, take, drop, Option, Some, None, IfSome, arith}
+use Rattle.std.proofs.Common.{◌≡◌, ◌∙◌, ◌<◌, ◌++◌, sym, subst, refl, ℕ, Bool, true, false, List, length, take, drop, Option, Some, IfSome, arith}
 use Rattle.std.proofs.lemmas.List.{ext_get_or, take_all, take-append-le}
 use Rattle.far_file.specs.Positions.{HoldsAt}
 
@@ -9,14 +9,6 @@ of_found found held P is so = subst (λ o. IfSome o P) (sym is) so
 
 pub known_of : (found : Option (List ℕ)) (held : List ℕ) (P : List ℕ → Type 0) → found ≡ Some held → IfSome found P → P held
 known_of found held P is so = subst (λ o. IfSome o P) is so
-
--- where none are found nothing is said
-pub none_found : (found : Option (List ℕ)) (P : List ℕ → Type 0) → found ≡ None → IfSome found P
-none_found found P is = subst (λ o. IfSome o P) (sym is) tt
-
-pub nothing_said : (found : Option (List ℕ)) → IfSome found (λ stored. Unit {0})
-nothing_said None = tt
-nothing_said (Some held) = tt
 
 -- a buffer that was filled has the bytes that it was filled with
 pub refilled : (n : ℕ) (old new : List ℕ) → length new ≡ n → take n (new ++ drop (length new) old) ≡ new

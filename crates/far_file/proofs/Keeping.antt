@@ -1,7 +1,7 @@
 -- What keys were given stays where it is while one key's slot changes, or other bytes are put beside.
 use Rattle.std.proofs.Common.{◌≡◌, ◌∙◌, ◌+◌, ◌*◌, ◌<◌, ◌≤◌, inl, inr, ap, sym, subst, ℕ, Bool, true, List, length, Option, Some, IfSome, arith}
 use Rattle.far_file.specs.Entry.{len_in, slot_in}
-use Rattle.far_file.specs.Free.{IsFree, KeepsOwned, KeepsOwnedBut}
+use Rattle.far_file.specs.Free.{KeepsOwned, KeepsOwnedBut}
 use Rattle.far_file.specs.Positions.{HoldsAt, KeepsOutside}
 use Rattle.far_file.specs.Row.{AreKept, IsKept, IsUnused, ChangesAt}
 use Rattle.far_file.specs.Where.{class_in, page_in, scale, slot_at, within_page, AreApart, HasExtent, KeepsExtents}
@@ -74,14 +74,6 @@ module _ {L : Type 0} {l : Ghosts L} where
         there = subst (λ e. 0 < e) (sym same) theirs.there;
         stands = λ is_so. subst (λ e. HoldsAt seen (16384 * e + 64 * within_page (class_in (len_in held)) (slot_in held)) held.was.value.items) (sym same) (theirs.stands is_so);
       }
-
-  -- a slot that nobody had is in no key's use
-  pub unused_if_free : (seen : ℕ → ℕ) (honest : Bool) (owner : ℕ → ℕ → Option ℕ) (extents : List ℕ) (entry : ℕ → Option (Held L l)) (class slot : ℕ) → AreKept seen honest owner extents entry → IsFree (owner class slot) → IsUnused entry class slot
-  unused_if_free seen honest owner extents entry class slot kept free q held is same_class same_slot =
-      let theirs = kept q held is in
-      let named = ap (λ c. owner c slot) (sym same_class) ∙ ap (λ s. owner (class_in (len_in held)) s) (sym same_slot) ∙ theirs.owned in
-      let high = free q named in
-      omega (arith, high, theirs.key)
 
   -- bytes are put into a slot that no key uses
   pub put_apart : (old new : ℕ → ℕ) (honest now : Bool) (owner : ℕ → ℕ → Option ℕ) (extents : List ℕ) (below : ℕ) (entry : ℕ → Option (Held L l)) (class slot count : ℕ) → AreApart extents below → ((n : ℕ) → class_in n < CLASSES) → ((n : ℕ) → n ≤ SLOT → n ≤ 64 * scale (class_in n)) →

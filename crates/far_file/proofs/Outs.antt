@@ -11,11 +11,6 @@ no_slot owned none Memory out = tt
 no_slot owned none Slot out = out
 no_slot owned none Extent out = absurd out
 
-pub no_extent : (owned none : Type 0) (want : Want) → IsOut ⊥ none want → IsOut owned none want
-no_extent owned none Memory out = tt
-no_extent owned none Slot out = absurd out
-no_extent owned none Extent out = out
-
 -- a number that isn't taken
 pub none_left : (shared : Option Extents) (below number : ℕ) → IfNone shared (number ≡ below) → (number < below) ⊎ (2 ^ 32 - 1 ≤ number) → HasNoMore below shared
 none_left (Some extents) below number is out = tt

@@ -1,12 +1,10 @@
 -- What a row says of each key once what it says of one is set.
-use Rattle.std.proofs.Common.{◌≡◌, ◌≢◌, ◌<◌, ◌≤◌, ◌⊎◌, inl, inr, ap, refl, ℕ, zero, suc, List, [], ◌∷◌, length, Option, Some, None, arith}
+use Rattle.std.proofs.Common.{◌≡◌, ◌≢◌, ◌<◌, ◌≤◌, ◌⊎◌, inl, inr, ap, refl, ℕ, zero, suc, List, [], ◌∷◌, length, Some, arith}
 use Rattle.std.proofs.Math.ListN.{set}
 use Rattle.std.specs.List.{slice_get}
 use Rattle.std.specs.Option.{option_and_then}
-use Rattle.std.proofs.lemmas.Option.{slice_get_past}
-use Rattle.far_device.specs.Contents.{KeepsOthers}
 use Rattle.far_file.specs.Entry.{len_in}
-use Rattle.far_file.specs.Row.{bytes_in, bytes_of, entry_in, known, ChangesAt}
+use Rattle.far_file.specs.Row.{entry_in, known, ChangesAt}
 use Rattle.far_file.specs.declared.held.Held.{Held}
 use Rattle.far_file.specs.declared.place.TheConstants.{SLOT}
 use Rattle.far_file.specs.declared.seal.Seal.{Ghosts}
@@ -26,14 +24,6 @@ set_at (x ∷ xs) zero (suc q) y within = inr ((λ same. omega (arith, same)), r
 set_at (x ∷ xs) (suc i) zero y within = inr ((λ same. omega (arith, same)), refl)
 set_at (x ∷ xs) (suc i) (suc q) y within = behind x xs i q y (set_at xs i q y (omega arith))
 
--- what is said of one that is set
-pub said : {A : Type 0} (old new : ℕ → Option A) (one : ℕ) (entry : Option A) → ChangesAt old new one entry → new one ≡ entry
-said old new one entry changes = elim (changes one) [ inl here ↦ here.1 | inr other ↦ absurd (other.0 refl) ]
-
--- and of others
-pub said_beside : {A : Type 0} (old new : ℕ → Option A) (one q : ℕ) (entry : Option A) → ChangesAt old new one entry → q ≢ one → new q ≡ old q
-said_beside old new one q entry changes other = elim (changes q) [ inl here ↦ absurd (other here.0) | inr there ↦ there.1 ]
-
 module _ {L : Type 0} {l : Ghosts L} where
   by_place : (row : List (Held L l)) (id q : ℕ) (held : Held L l) → SetAt row id q held → ((q ≡ id) × (entry_in (set row id held) q ≡ known held)) ⊎ ((q ≢ id) × (entry_in (set row id held) q ≡ entry_in row q))
   by_place row id q held (inl here) = inl (here.0, ap (λ found. option_and_then (λ it. known it) found) here.1)
@@ -42,17 +32,6 @@ module _ {L : Type 0} {l : Ghosts L} where
   pub changed : (row : List (Held L l)) (id : ℕ) (held : Held L l) → id < length row → ChangesAt (entry_in row) (entry_in (set row id held)) id (known held)
   changed row id held below q = by_place row id q held (set_at row id q held below)
 
-  -- of keys behind a row nothing is known
-  pub past_end : (row : List (Held L l)) (id : ℕ) → length row ≤ id → entry_in row id ≡ None
-  past_end row id past = ap (λ found. option_and_then (λ held. known held) found) (slice_get_past row id past)
-
-  -- others keep their bytes
-  pub bytes_beside : (old new : List (Held L l)) (id : ℕ) (entry : Option (Held L l)) → ChangesAt (entry_in old) (entry_in new) id entry → KeepsOthers (bytes_in old) (bytes_in new) id
-  bytes_beside old new id entry changes = λ q other. ap (λ e. bytes_of e) (said_beside (entry_in old) (entry_in new) id q entry changes other)
-
   -- an entry of few enough bytes is one, and no other is
   pub is_known : (held : Held L l) → (len_in held) ≤ SLOT → known held ≡ Some held
   is_known held few = grind arith
-
-  pub not_known : (held : Held L l) → SLOT < (len_in held) → known held ≡ None
-  not_known held more = grind arith

@@ -8,9 +8,6 @@ use Rattle.far_firsts.specs.Doing.{last_of}
 pub itself : (e : ℕ) → (e == e) ≡ true
 itself e = (Decides-eqb e e).1 refl
 
-not_both : (b : Bool) → b ≡ false → b ≡ true → ⊥
-not_both b e f = cc
-
 is_false : (b : Bool) → (b ≡ true → ⊥) → b ≡ false
 is_false true f = absurd (f refl)
 is_false false f = refl

@@ -5,7 +5,6 @@ use Rattle.std.specs.Io.KnownBytes.{Consumes, IsAtEnd, Keeps}
 use Rattle.std.proofs.KnownBytes.{Appends-nil, Appends-trans}
 use Rattle.std.proofs.lemmas.List.{append-nil, append_assoc, length-append, take_all, take_at}
 use Rattle.far_word.specs.declared.refused.Refused.{Refused as Refusal}
-use Rattle.far_word.specs.declared.refused.Refused.TheVariants.{Memory}
 use Rattle.far_firsts.specs.Lines.{ends_in, lines_of, text_of, IsPlain, ArePlain}
 use Rattle.far_firsts.specs.Firsts.{firsts, IsPartOf}
 use Rattle.far_firsts.specs.Causes.{IsCause}
@@ -168,14 +167,6 @@ begins honest end text a left p is nothing = record {
     written = Appends-nil p;
   };
 }
-
--- there was no memory to begin
-not_begun : (longest : ℕ) (refuses : Refusal → Type 0) (honest : Bool) (end : ℕ) (text : List ℕ) (left p : Option (List ℕ)) → Tells longest refuses honest end 0 (Refused Memory) text left p p
-not_begun longest refuses honest end text left p = record { count = omega arith; cause = inl refl; printed = []; some = tt; exact = λ h. refl; leaves = Appends-nil p }
-
-pub never_began : (longest : ℕ) (refuses : Refusal → Type 0) (honest : Bool) (end n : ℕ) (why : Why) (text : List ℕ) (left p : Option (List ℕ)) → n ≡ 0 → why ≡ Refused Memory → Tells longest refuses honest end n why text left p p
-never_began longest refuses honest end n why text left p zero is =
-    subst (λ k. Tells longest refuses honest end k why text left p p) (sym zero) (subst (λ w. Tells longest refuses honest end 0 w text left p p) (sym is) (not_begun longest refuses honest end text left p))
 
 empty_of : (n : Option (List ℕ)) (ys : List ℕ) → n ≡ Some ys → IsAtEnd n → ys ≡ []
 empty_of n ys e h = subst IsAtEnd e h

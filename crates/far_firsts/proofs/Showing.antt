@@ -1,5 +1,5 @@
 -- What is printed of counts.
-use Rattle.std.proofs.Common.{◌≡◌, ℕ, zero, suc, ◌+◌, ◌-◌, ◌<◌, ◌≤◌, ◌⊎◌, min, Bool, true, inl, Option, List, [], ◌∷◌, ◌++◌, length, take, drop, replicate, refl, sym, ◌∙◌, ap, subst, arith}
+use Rattle.std.proofs.Common.{◌≡◌, ℕ, zero, suc, ◌+◌, ◌-◌, ◌<◌, ◌≤◌, ◌⊎◌, min, Bool, true, Option, List, [], ◌∷◌, ◌++◌, length, take, drop, replicate, refl, sym, ◌∙◌, ap, subst, arith}
 use Rattle.std.specs.Io.KnownBytes.{Appends}
 use Rattle.std.proofs.KnownBytes.{Appends-nil, Appends-trans}
 use Rattle.std.proofs.lemmas.List.{append-nil, append_assoc, length-append, length-drop, length-take-le, take_all, take_at, take_rest, take-append-drop}
@@ -82,9 +82,6 @@ drop_end (p ∷ ps) zero h = absurd (omega (arith, h))
 drop_end (p ∷ ps) (suc k) h = drop_end ps k (omega (arith, h))
 
 -- ---- line after line
-pub shown_none : (honest : Bool) (end : ℕ) (counts : Counts) (out : List ℕ) (before : Option (List ℕ)) → out ≡ [] → Showed honest end counts 0 out before before
-shown_none honest end counts out before none = record { done = []; long = refl; total = refl; exact = λ h. refl; written = []; text = none; wrote = Appends-nil before }
-
 module _ (honest : Bool) (end : ℕ) (counts : Counts) (place : ℕ) (out : List ℕ) (before now : Option (List ℕ)) (s : Showed honest end counts place out before now) where
   pub shown_more : (after : List ℕ) → place < length counts → Shown honest end counts place out after → Showed honest end counts (place + 1) after before now
   shown_more after h shown =
@@ -214,7 +211,3 @@ tells_stopped longest refuses honest end n why ending text left before is few st
       cause = as_stopped longest refuses end n why text left counts stop;
       prints = prints_none end why counts before;
     })
-
-pub tells_none : (longest : ℕ) (refuses : Refusal → Type 0) (honest : Bool) (end n : ℕ) (ending : Ending) (text : List ℕ) (left before : Option (List ℕ)) → n ≡ 0 → ending ≡ Refused Memory → TellsCounts longest refuses honest end n ending text left before before
-tells_none longest refuses honest end n ending text left before none is =
-    tells_stopped longest refuses honest end n (WhyRefused Memory) ending text left before is (omega (arith, none)) (inl refl)

@@ -6,12 +6,12 @@ use Rattle.std.proofs.lemmas.List.{append-nil, append_assoc, length-append}
 use Rattle.far_word.specs.declared.refused.Refused.{Refused as Refusal}
 use Rattle.far_seen.specs.Tallied.{Counts, counted, total}
 use Rattle.far_firsts.specs.Lines.{ends_in, key_of, lines_of, text_of, IsPlain}
-use Rattle.far_firsts.specs.Causes.{IsCause, IsWhyNext}
+use Rattle.far_firsts.specs.Causes.{IsCause}
 use Rattle.far_firsts.specs.Doing.{Did, IsWhyHalt, State, Stopped, last_of}
 use Rattle.far_firsts.specs.Tallying.{Came, Counted, Gone, IsStop, Last, Whole, count_all, midst}
 use Rattle.far_firsts.specs.declared.end.Why.{Why}
 use Rattle.far_firsts.specs.declared.end.Why.TheVariants.{Done, Refused, Input, Output, TooMany}
-use Rattle.far_firsts.proofs.Causes.{all_ends, done_are, failed_read, halt_cause, last_halts, lines_are}
+use Rattle.far_firsts.proofs.Causes.{all_ends, done_are, failed_read, halt_cause, lines_are}
 use Rattle.far_firsts.proofs.Cuts.{all_plain_join, lines_last, plain_join, text_join}
 use Rattle.far_firsts.proofs.Steps.{did_then, left_of, some_same, stopped_at}
 
@@ -23,9 +23,6 @@ count_join : (end : ℕ) (ps : Counts) (xs ys : List (List ℕ)) → count_all e
 count_join end ps [] ys = refl
 count_join end ps (l ∷ ls) ys = count_join end (counted ps (key_of end l)) ls ys
 
-counted_none : (honest : Bool) (end : ℕ) (ps : Counts) → Counted honest end ps ps []
-counted_none honest end ps = record { total = omega arith; exact = λ h. refl }
-
 counted_one : (honest : Bool) (end : ℕ) (ps more : Counts) (line : List ℕ) → total more ≡ total ps + 1 → (honest ≡ true → more ≡ counted ps (key_of end line)) → Counted honest end ps more (line ∷ [])
 counted_one honest end ps more line all one = record { total = omega (arith, all); exact = one }
 
@@ -36,9 +33,6 @@ counted_join honest end ps qs rs xs ys a b = record {
 }
 
 -- ---- bytes after bytes
-pub came_rest : (honest : Bool) (end : ℕ) (rest part : List ℕ) (count : ℕ) (new : List ℕ) (ps : Counts) → new ≡ part ++ rest → Came honest end rest part count new count ps ps
-came_rest honest end rest part count new ps kept = record { ended = []; plain = tt; text = sym kept; count = omega arith; counts = counted_none honest end ps }
-
 pub came_line : (honest : Bool) (end : ℕ) (part piece new : List ℕ) (count n : ℕ) (ps more : Counts) → IsPlain end part → IsPlain end piece → n ≡ count + 1 → new ≡ [] → total more ≡ total ps + 1 →
     (honest ≡ true → more ≡ counted ps (key_of end (part ++ piece))) → Came honest end (piece ++ end ∷ []) part count new n ps more
 came_line honest end part piece new count n ps more p q one none all exact = record {
@@ -68,9 +62,6 @@ did_of honest end xs a b k m ps qs came = record { ended = came.ended; kept = []
 abbrev pub Eaten : Bool → ℕ → List ℕ → List ℕ → ℕ → List ℕ → ℕ → Counts → Counts → List ℕ → Type 0
 Eaten honest end bytes part count new n ps qs rest = (ate : List ℕ) × (bytes ≡ ate ++ rest) × Came honest end ate part count new n ps qs
 
-pub none_eaten : (honest : Bool) (end : ℕ) (bytes part : List ℕ) (count : ℕ) (ps : Counts) → Eaten honest end bytes part count part count ps ps bytes
-none_eaten honest end bytes part count ps = ([], refl, came_rest honest end [] part count part ps (sym (append-nil part)))
-
 pub line_eaten : (honest : Bool) (end : ℕ) (bytes part : List ℕ) (count : ℕ) (b : List ℕ) (m : ℕ) (c : List ℕ) (n : ℕ) (ps qs rs : Counts) (rest piece more : List ℕ) → Eaten honest end bytes part count b m ps qs rest → rest ≡ (piece ++ end ∷ []) ++ more →
     Came honest end (piece ++ end ∷ []) b m c n qs rs → Eaten honest end bytes part count c n ps rs more
 line_eaten honest end bytes part count b m c n ps qs rs rest piece more so cut came = (
@@ -79,33 +70,10 @@ line_eaten honest end bytes part count b m c n ps qs rs rest piece more so cut c
   came_then honest end so.0 (piece ++ end ∷ []) part b c count m n ps qs rs so.2 came,
 )
 
-pub all_eaten : (honest : Bool) (end : ℕ) (bytes part : List ℕ) (count : ℕ) (b : List ℕ) (m : ℕ) (new : List ℕ) (ps qs : Counts) (rest : List ℕ) → Eaten honest end bytes part count b m ps qs rest → new ≡ b ++ rest → Came honest end bytes part count new m ps qs
-all_eaten honest end bytes part count b m new ps qs rest so kept =
-    subst (λ xs. Came honest end xs part count new m ps qs) (sym so.1) (came_then honest end so.0 rest part b new count m m ps qs qs so.2 (came_rest honest end rest b m new qs kept))
-
 pub eaten_stops : (longest : ℕ) (refuses : Refusal → Type 0) (honest : Bool) (end : ℕ) (bytes part : List ℕ) (count : ℕ) (b : List ℕ) (m n : ℕ) (ps qs : Counts) (rest : List ℕ) (why : Why) → Eaten honest end bytes part count b m ps qs rest → n ≡ m →
     IsWhyHalt longest refuses end (midst (b ++ rest) m) why → Stopped longest refuses false end bytes (midst part count) n why [] []
 eaten_stops longest refuses honest end bytes part count b m n ps qs rest why so counted cause =
     stopped_at longest refuses false end bytes so.0 rest (midst part count) set.empty b m n why [] [] [] so.1 (did_of honest end so.0 part b count m ps qs so.2) counted refl cause
-
--- ---- the end of the text
-pub last_none : (honest : Bool) (end : ℕ) (part : List ℕ) (count : ℕ) (ps : Counts) → part ≡ [] → Last honest end part count count ps ps
-last_none honest end part count ps none = subst (λ t. Last honest end t count count ps ps) (sym none) (record { count = omega arith; counts = counted_none honest end ps })
-
-last_is : (xs : List ℕ) → (length xs ≡ 0 → ⊥) → ◌≡◌ {A = List (List ℕ)} (xs ∷ []) (last_of xs)
-last_is [] f = absurd (f refl)
-last_is (x ∷ xs) f = refl
-
-pub last_one : (honest : Bool) (end : ℕ) (part : List ℕ) (count n : ℕ) (ps more : Counts) → (length part ≡ 0 → ⊥) → n ≡ count + 1 → total more ≡ total ps + 1 → (honest ≡ true → more ≡ counted ps (key_of end (part ++ []))) → Last honest end part count n ps more
-last_one honest end part count n ps more some one all exact =
-    let is : ◌≡◌ {A = List (List ℕ)} ((part ++ []) ∷ []) (last_of part) = ap (λ (t : List ℕ). t ∷ []) (append-nil part) ∙ last_is part some in
-    record {
-      count = one ∙ ap (λ (t : List (List ℕ)). count + length t) is;
-      counts = subst (λ ls. Counted honest end ps more ls) is (counted_one honest end ps more (part ++ []) all exact);
-    }
-
-pub last_stops : (longest : ℕ) (refuses : Refusal → Type 0) (end : ℕ) (part : List ℕ) (count : ℕ) (why : Why) → IsPlain end part → (length part ≡ 0 → ⊥) → IsWhyNext longest refuses count (length (part ++ [])) why → IsWhyHalt longest refuses end (midst part count) why
-last_stops longest refuses end part count why plain some w = last_halts longest refuses end set.empty part count why plain some w
 
 -- ---- a whole text
 as_stop : (longest : ℕ) (refuses : Refusal → Type 0) (end n : ℕ) (s : State) (why : Why) (text : List ℕ) (left : Option (List ℕ)) → IsWhyHalt longest refuses end s why → IsCause longest refuses end n why text left → IsStop longest refuses end n why text left

@@ -1,6 +1,6 @@
 -- Calls after calls are calls. Of what a function calls it is put together so: `first_call` and `then_call` of a hand's call, `then_came` of a function that says
 -- itself what it came by, `no_call` where there was none.
-use Rattle.std.proofs.Common.{◌≡◌, Result, Ok, Err, IfOk, IfErr, refl, sym, subst, List, [], ◌∷◌, ◌++◌}
+use Rattle.std.proofs.Common.{◌≡◌, refl, sym, subst, List, [], ◌∷◌, ◌++◌}
 use Rattle.far_hand.specs.Came.{Runs, Came, only}
 
 module _ {S E R : Type 0} where
@@ -21,12 +21,6 @@ module _ {S E R : Type 0} where
 
   pub then_call : {makes : S → E → R → S → Type 0} {s t u : S} → (e : E) (r : R) → Came makes s t → makes t e r u → Came makes s u
   then_call {makes} {s} {t} {u} e r a made = then_came a (first_call e r made)
-
-  -- a call that answers in one of two ways
-  pub call_result : {A B : Type 0} {makes : S → E → R → S → Type 0} {s t : S} → (e : E) (f : A → R) (h : B → R) (r : Result A B) →
-      IfOk r (λ x. makes s e (f x) t) → IfErr r (λ y. makes s e (h y) t) → Came makes s t
-  call_result {A} {B} {makes} {s} {t} e f h (Ok x) a b = first_call e (f x) a
-  call_result {A} {B} {makes} {s} {t} e f h (Err y) a b = first_call e (h y) b
 
   -- what each call keeps, they all keep
   keeps_along : (makes : S → E → R → S → Type 0) (P : S → Type 0) → ((s t : S) (e : E) (r : R) → makes s e r t → P s → P t) →

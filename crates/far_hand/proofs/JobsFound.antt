@@ -52,9 +52,6 @@ empty_body (Some (Finished job c)) e = absurd cc
 pub empty_found : (v w : ℕ) → FindsJob v w → v ≡ 0 → w ≡ 0
 empty_found v w f e = sym (job_says w Empty (empty_body (job_of w) (f.body ∙ ap (λ x. job_body (job_of x)) e ∙ ap job_body unworded))).1
 
-pub empty_known : (v w : ℕ) → FindsJob v w → w ≡ 0 → v ≡ 0
-empty_known v w f e = sym (job_says v Empty (empty_body (job_of v) (sym f.body ∙ ap (λ x. job_body (job_of x)) e ∙ ap job_body unworded))).1
-
 -- no job reads or writes a log, if none is known that does
 pub uncopied_found : (known : Copying) (k : Copying) → AllFindJobs known.word k.word → (l : ℕ) → IsUncopied known l → IsUncopied k l
 uncopied_found known k finds l none j job at = none j job (sym (same_job (known.word j) (k.word j) (finds j)) ∙ at)
@@ -147,7 +144,3 @@ pub jobs_set : (jobs word : ℕ → ℕ) (j w : ℕ) → AllFindJobs jobs word �
 jobs_set jobs word j w finds i = put_both (λ v. FindsJob v (put word j w i)) jobs j w i
     (λ same. job_is w (put word j w i) (put_same word j w i same))
     (λ ne. subst (λ v. FindsJob (jobs i) v) (sym (put_other word j w i ne)) (finds i))
-
--- what a word of a job is may be found of it
-pub job_seen : (jobs word : ℕ → ℕ) (j w : ℕ) → AllFindJobs jobs word → word j ≡ w → FindsJob (jobs j) w
-job_seen jobs word j w finds e = subst (FindsJob (jobs j)) e (finds j)

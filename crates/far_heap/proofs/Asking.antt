@@ -36,12 +36,6 @@ asks_to_view p a b c x is = (x.0, is ∙ ap (viewing p) x.1)
 
 -- ---- tries under the lock, one after the other
 module _ (p : ℕ) (a b n : Mine) (x : Asks p a b) where
-  pub asks_pinned : (viewed : Bool) (r : Bool) → r ≡ viewed → (viewed ≡ true → n ≡ viewing p b) → r ≡ true → AsksToView p a n
-  asks_pinned viewed r is pinned h = asks_to_view p a b n x (pinned (sym is ∙ h))
-
-  pub asks_unpinned : n ≡ b → Asks p a n
-  asks_unpinned same = subst (Asks p a) (sym same) x
-
   pub asks_and_views : AsksToView p b n → AsksToView p a n
   asks_and_views y = let t = asks_then p a b (asking p y.0 b) x (y.0, refl) in (t.0, y.1 ∙ ap (viewing p) t.1)
 

@@ -16,7 +16,7 @@ use Rattle.far_table.specs.View.{OwnerView}
 use Rattle.far_table.specs.Views.{len_of, object_at}
 use Rattle.far_table.specs.Ranges.{HasBytes, Wrote}
 use Rattle.far_table.proofs.WholeWords.{in_row, packed_bytes, put_above, put_below, put_inside, put_long, word_byte, wrote_join}
-use Rattle.far_heap.proofs.Spliced.{part_wide}
+use Rattle.far_book.proofs.region.Packing.{part_wide}
 
 -- a part of the bytes of one word is that part of the row
 pub part_read : (f : ℕ → ℕ) (w from at m : ℕ) (buf rest out : List ℕ) → at ≡ from % 8 → at + length out ≤ 8 → buf ≡ bytes_low_first 0 8 w ++ rest → out ≡ take m (drop at buf) →

@@ -38,7 +38,6 @@ use far_log::{LogRow, Span};
 use far_table::BookSeat;
 use far_word::Refused;
 use std::marker::{Model, PhantomData};
-pub(crate) use turns::nothing_done;
 
 /// The evacuator of the heap of a name, with the book: what the heap's lock keeps. Its calls are those of [`far_evac::Evac`] that leave owners' objects
 /// to the owners; none blocks.

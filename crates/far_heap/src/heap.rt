@@ -11,7 +11,7 @@ ghost use Rattle.far_heap.specs.Rounds.{Chose, EndsAfter, EndsTurns, RefusesRoun
 
 use crate::blank::Blank;
 use crate::copier::Copier;
-use crate::evacuator::{Evacuator, nothing_done};
+use crate::evacuator::Evacuator;
 use crate::mutator::Mutator;
 use crate::name::HeapName;
 use far_device::Device;
@@ -189,7 +189,7 @@ impl<K: HeapName, D: Device + Drop> Heap<K, D> {
             Ok(chosen) => chosen,
             Err(why) => {
                 return Err(EvacFault {
-                    so_far: nothing_done(),
+                    so_far: Progress::nothing(),
                     why,
                 });
             }
@@ -210,7 +210,7 @@ impl<K: HeapName, D: Device + Drop> Heap<K, D> {
         ensures ended { IfOk result (EndsTurns D.writes D.lets_go D.contents K.heap chosen.now turns) }
         ensures refused { IfErr result (StopsTurns D.writes D.lets_go D.contents K.heap chosen.now turns) }
     {
-        let mut total = nothing_done();
+        let mut total = Progress::nothing();
         let mut phase = Phase::Marking;
         let mut pauses = 1;
         for _ in 0..turns {

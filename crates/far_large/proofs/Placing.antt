@@ -2,8 +2,8 @@
 use Rattle.std.proofs.Common.{◌≡◌, ◌≢◌, ℕ, zero, suc, ◌+◌, ◌<◌, ◌⊎◌, inl, inr, Option, Some, None, List, length, sym, ◌∙◌, ap, subst, arith, get_or-set_other, get_or-set_same, below_more}
 use Rattle.std.specs.Prelude.{slice_set}
 use Rattle.std.proofs.lemmas.Bool.Decides.{eqb_tells}
-use Rattle.far_objects.specs.Far.{Drops, Far, Makes, Others}
-use Rattle.far_large.specs.Parts.{AreApart, AsBefore, Dropped, HasBytes, IsNone, OthersThan, Placed, number_of, part_of}
+use Rattle.far_objects.specs.Far.{Far, Makes, Others}
+use Rattle.far_large.specs.Parts.{AreApart, HasBytes, IsNone, OthersThan, Placed, number_of, part_of}
 
 none_some : {n : ℕ} {o : Option ℕ} → o ≡ None → o ≡ Some n → ⊥
 none_some e f = cc
@@ -23,25 +23,6 @@ among numbers (suc n) k = elim (eqb_tells (number_of numbers n) k) [
     | inr none ↦ inr (λ i h. below_more (λ i. number_of numbers i ≢ k) n none other.1 i (omega arith))
   ]
 ]
-
--- ---- one more is dropped
-module _ (numbers : List ℕ) (i : ℕ) (old now new : Far) where
-  drop_gone : AreApart numbers (i + 1) → Dropped numbers i old now → Drops (number_of numbers i) now new → (k : ℕ) → k < i + 1 → new.sizes (number_of numbers k) ≡ None
-  drop_gone apart was d = below_more (λ k. new.sizes (number_of numbers k) ≡ None) i (λ k h. d.others.sizes (number_of numbers k) (apart k i h (omega arith)) ∙ was.gone k h) d.gone
-
-  drop_others : Dropped numbers i old now → Drops (number_of numbers i) now new → OthersThan numbers (i + 1) old new
-  drop_others was d = record {
-    honest = d.others.honest ∙ was.others.honest;
-    sizes = λ k none. d.others.sizes k (λ e. none i (omega arith) (sym e)) ∙ was.others.sizes k (λ j h. none j (omega arith));
-    bytes = λ k none. d.others.bytes k (λ e. none i (omega arith) (sym e)) ∙ was.others.bytes k (λ j h. none j (omega arith));
-  }
-
-  pub drop_more : AreApart numbers (i + 1) → Dropped numbers i old now → Drops (number_of numbers i) now new → Dropped numbers (i + 1) old new
-  drop_more apart was d = record { gone = drop_gone apart was d; others = drop_others was d }
-
-  -- its object was there, so the drop isn't refused
-  pub drop_there : AreApart numbers (i + 1) → Dropped numbers i old now → (n : ℕ) → old.sizes (number_of numbers i) ≡ Some n → now.sizes (number_of numbers i) ≡ None → ⊥
-  drop_there apart was n there gone = none_some gone (was.others.sizes (number_of numbers i) (λ j h e. apart j i h (omega arith) e) ∙ there)
 
 -- ---- an object keeps its bytes
 pub kept_by : (h n : ℕ) (xs : List ℕ) (now new : Far) → Others h now new → n ≢ h → HasBytes now n xs → HasBytes new n xs
@@ -83,20 +64,3 @@ module _ (numbers : List ℕ) (i h : ℕ) (xs : List ℕ) (old now new : Far) (w
 
   pub make_more : Placed (slice_set numbers i h) (i + 1) xs old new
   make_more = record { apart = make_apart; fresh = make_fresh; holds = make_holds; others = make_others }
-
--- ---- what was made is dropped again
-module _ (numbers : List ℕ) (i : ℕ) (xs : List ℕ) (old now new : Far) (was : Placed numbers i xs old now) (d : Dropped numbers i now new) where
-  undo_sizes : (k : ℕ) → IsOne numbers i k ⊎ IsNone numbers i k → new.sizes k ≡ old.sizes k
-  undo_sizes k (inl one) = sym (ap new.sizes one.is) ∙ d.gone one.place one.within ∙ sym (was.fresh one.place one.within) ∙ ap old.sizes one.is
-  undo_sizes k (inr none) = d.others.sizes k none ∙ was.others.sizes k none
-
-  undo_bytes : (k n : ℕ) → old.sizes k ≡ Some n → IsOne numbers i k ⊎ IsNone numbers i k → new.bytes k ≡ old.bytes k
-  undo_bytes k n there (inl one) = absurd (none_some (sym (ap old.sizes one.is) ∙ was.fresh one.place one.within) there)
-  undo_bytes k n there (inr none) = d.others.bytes k none ∙ was.others.bytes k none
-
-  pub undo : AsBefore old new
-  undo = record {
-    honest = d.others.honest ∙ was.others.honest;
-    sizes = λ k. undo_sizes k (among numbers i k);
-    bytes = λ k n there. undo_bytes k n there (among numbers i k);
-  }

@@ -5,7 +5,6 @@ pub mod Outcomes
 pub mod Rewriting
 pub mod Told
 pub mod Growth
-pub mod Causes
 pub mod Emptying
 pub mod Fronts
 pub mod PutLast

@@ -13,8 +13,9 @@ use crate::steps::drop_all;
 use far_index::tag_of_key;
 use far_objects::Objects;
 use far_word::Refused;
+use std::fmt;
 
-/// What of a map is near.
+/// What of a map is near. As one line `entries 3 homes 16 taken 4 bytes 230`.
 #[derive(Clone, Copy, Debug, PartialEq, Eq)]
 pub struct Statistics {
     /// How many entries it has.
@@ -25,6 +26,16 @@ pub struct Statistics {
     pub taken: usize,
     /// The index's bytes: 10 a slot.
     pub bytes: usize,
+}
+
+impl fmt::Display for Statistics {
+    fn fmt<W: fmt::Write>(&self, f: &mut fmt::Formatter<W>) -> fmt::Result {
+        write!(
+            f,
+            "entries {} homes {} taken {} bytes {}",
+            self.entries, self.homes, self.taken, self.bytes
+        )
+    }
 }
 
 impl<O: Objects + Drop> Map<O> {

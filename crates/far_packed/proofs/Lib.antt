@@ -2,4 +2,3 @@ pub mod Values
 pub mod Tables
 pub mod Pieces
 pub mod Reached
-pub mod Whys

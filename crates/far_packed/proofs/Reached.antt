@@ -1,7 +1,7 @@
 -- What is reached of a value.
 use Rattle.std.proofs.Common.{◌≡◌, ◌≢◌, ℕ, ◌+◌, ◌-◌, ◌/◌, ◌<◌, ◌≤◌, Bool, true, false, cond, Option, Some, None, List, length, take, drop, refl, sym, ap, subst, ◌∙◌, arith, inl, inr, ◌⊎◌}
 use Rattle.std.specs.Prelude.{◌&&◌, nat_lt, nat_le, IfSome}
-use Rattle.std.proofs.lemmas.Bool.{cases_eq, cases_lt, ltb-true, lt-ltb, leb-true, le-leb, and_parts}
+use Rattle.std.proofs.lemmas.Bool.{cases_eq, cases_lt, ltb-true, leb-true, and_parts}
 use Rattle.far_word.specs.declared.refused.Refused.{Refused}
 use Rattle.far_word.specs.declared.refused.Refused.TheVariants.{NotHeld, Range}
 use Rattle.far_objects.specs.declared.objects.TheConstants.{MOST}
@@ -42,11 +42,6 @@ inside_by n from count false e = absurd (cc)
 
 pub inside_of : (n from count : ℕ) → barred (some_len n) from count ≡ None → IsInside n from count
 inside_of n from count e = inside_by n from count (nat_lt 0 n) e
-
-pub open_for : (o : Option ℕ) (from count : ℕ) → 0 < count → from + count ≤ or_zero o → barred o from count ≡ None
-open_for None from count some l = absurd (omega arith)
-open_for (Some n) from count some l =
-    ap (λ b. cond (b && nat_le (from + count) n) None (Some Range)) (lt-ltb 0 count some) ∙ ap (λ b. cond b None (Some Range)) (le-leb (from + count) n l)
 
 same_why : {a b : Refused} → Some a ≡ Some b → a ≡ b
 same_why e = cc

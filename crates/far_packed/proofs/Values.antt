@@ -1,5 +1,5 @@
 -- Values before and after a step.
-use Rattle.std.proofs.Common.{◌≡◌, ◌≢◌, ℕ, ◌+◌, ◌/◌, ◌<◌, ◌≤◌, Bool, true, false, cond, Option, Some, None, List, length, take, drop, refl, sym, ap, ◌∙◌, arith, inl, inr, ◌⊎◌, ◌++◌, length-append, length-drop}
+use Rattle.std.proofs.Common.{◌≡◌, ◌≢◌, ℕ, ◌+◌, ◌/◌, ◌<◌, ◌≤◌, Bool, true, false, cond, Option, Some, None, List, length, take, drop, refl, sym, ap, ◌∙◌, arith, ◌++◌, length-append, length-drop}
 use Rattle.std.specs.Prelude.{◌&&◌, nat_lt}
 use Rattle.std.proofs.lemmas.Bool.{false≢true, ltb-true, lt-ltb}
 use Rattle.std.proofs.lemmas.List.{drop-append-le, drop_at, take-append-le, take_all}
@@ -33,11 +33,6 @@ pub far_same : (far later : Far) (t u : Table) → later.honest ≡ far.honest �
 far_same far later t u honest lens bytes = λ i. record { honest = honest i; sizes = λ h. some_len (lens h i); bytes = λ h. bytes h i }
 
 -- ---- a block's place
-pub open_or_not : (p : Place) → (is_open p ≡ true) ⊎ (is_open p ≡ false)
-open_or_not Open = inl refl
-open_or_not (Sealed n) = inr refl
-open_or_not (Free n) = inr refl
-
 pub open_is : (p : Place) → is_open p ≡ true → p ≡ Open
 open_is Open e = refl
 open_is (Sealed n) e = absurd (false≢true e)

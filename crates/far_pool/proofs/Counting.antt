@@ -1,12 +1,10 @@
 -- How many objects a worker's heaps have, and which is the first from a place on.
-use Rattle.std.proofs.Common.{◌≡◌, ◌≤◌, ◌<◌, ◌+◌, ◌*◌, ℕ, suc, Option, Some, None, is_some, List, [], ◌∷◌, length, refl, ap, subst, ◌∙◌, inl, inr, arith}
+use Rattle.std.proofs.Common.{◌≡◌, ◌≤◌, ◌+◌, ℕ, suc, Option, Some, None, is_some, List, [], ◌∷◌, length, refl, ap, subst, ◌∙◌, arith}
 use Rattle.std.specs.Prelude.{filter, slice_index_or}
-use Rattle.std.proofs.lemmas.Bool.{cases_lt}
 use Rattle.std.proofs.lemmas.List.{get_or_past}
-use Rattle.far_word.specs.declared.sizes.TheConstants.{POINTERS}
 use Rattle.far_private.specs.Objects.{Object}
 use Rattle.far_pool.specs.declared.handle.Handle.{Handle}
-use Rattle.far_pool.specs.Pool.{Pool, Shelf, at, count_below, count_on, found, no_shelf, place_of}
+use Rattle.far_pool.specs.Pool.{Pool, Shelf, at, count_below, count_on, found, no_shelf}
 use Rattle.far_pool.proofs.Shelves.{found_free}
 
 pub few_some : (xs : List (Option Object)) → length (filter is_some xs) ≤ length xs
@@ -24,27 +22,3 @@ count_none shelves = refl
 
 pub nothing_outside : (w : Pool) (k : Handle) → length w.shelves ≤ k.heap → at w k ≡ None
 nothing_outside w k le = ap (λ s. found s k.pointer k.generation) (get_or_past w.shelves k.heap no_shelf le) ∙ found_free no_shelf k.pointer k.generation refl
-
-module _ (w : Pool) (start heap from : ℕ) (lt : from < POINTERS) (before : (k : Handle) → k.pointer < POINTERS → start ≤ place_of k → place_of k < heap * POINTERS + from → at w k ≡ None) where
-  -- a heap has none from there on
-  pub none_more : ((k : Handle) → k.heap ≡ heap → from ≤ k.pointer → k.pointer < POINTERS → at w k ≡ None) →
-      (k : Handle) → k.pointer < POINTERS → start ≤ place_of k → place_of k < (heap + 1) * POINTERS + 0 → at w k ≡ None
-  none_more none k inside after below = elim (cases_lt (place_of k) (heap * POINTERS + from)) [
-    | inl less ↦ before k inside after less
-    | inr le ↦ none k (omega arith) (omega arith) inside
-  ]
-
-  -- it has one, and none before it
-  pub none_before : (h : Handle) → h.heap ≡ heap → h.pointer < POINTERS → ((k : Handle) → k.heap ≡ heap → from ≤ k.pointer → k.pointer < h.pointer → at w k ≡ None) →
-      (k : Handle) → k.pointer < POINTERS → start ≤ place_of k → place_of k < place_of h → at w k ≡ None
-  none_before h is under none k inside after below = elim (cases_lt (place_of k) (heap * POINTERS + from)) [
-    | inl less ↦ before k inside after less
-    | inr le ↦ none k (omega (arith, is)) (omega (arith, is)) (omega (arith, is))
-  ]
-
-  -- there are no more heaps
-  pub none_left : length w.shelves ≤ heap → (k : Handle) → k.pointer < POINTERS → start ≤ place_of k → at w k ≡ None
-  none_left end k inside after = elim (cases_lt (place_of k) (heap * POINTERS + from)) [
-    | inl less ↦ before k inside after less
-    | inr le ↦ nothing_outside w k (omega (arith, end))
-  ]

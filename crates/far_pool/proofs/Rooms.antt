@@ -5,7 +5,7 @@ use Rattle.far_device.specs.declared.fault.DeviceFault.{DeviceFault}
 use Rattle.far_word.specs.declared.refused.Refused.{Refused}
 use Rattle.far_word.specs.declared.refused.Refused.TheVariants.{NoRoom}
 use Rattle.far_private.specs.Causes.{IsNotTaken as IsRefused}
-use Rattle.far_private.specs.Heap.{Heap, object}
+use Rattle.far_private.specs.Heap.{Heap}
 use Rattle.far_pool.specs.Pool.{AreAlike, Pool, Shelf, found, generation_on, object_on, shelf_in}
 use Rattle.far_pool.specs.Rooms.{HasRoom, IsNotTaken, IsStuck}
 use Rattle.far_pool.proofs.Shelves.{found_now}
@@ -32,14 +32,6 @@ module _ {D : Type 0} (writes : D → ℕ → List ℕ → Result (Unit {0}) Dev
     after = t.after;
     refused = t.refused;
   }
-
-  -- of a heap it is told as of its shelf
-  pub room_on : {A B : Type 0} (h : Heap) (gs : List ℕ) (s : Shelf) → shelf h gs ≡ s → (why : Refused) → (◌≡◌ {A = Result A Refused} (Err why) (Err NoRoom) → 3 ≤ h.logs → IsRefused D writes (object h)) →
-      ◌≡◌ {A = Result B Refused} (Err why) (Err NoRoom) → 3 ≤ s.logs → IsRefused D writes (object_on s)
-  room_on h gs s e why room none three = subst (λ (x : Shelf). IsRefused D writes (object_on x)) e (room (same_err why none) (subst (λ (x : Shelf). 3 ≤ x.logs) (sym e) three))
-
-  pub room_of : {A : Type 0} (h : Heap) (gs : List ℕ) (s : Shelf) → shelf h gs ≡ s → (r : Result A Refused) → (r ≡ Err NoRoom → 3 ≤ h.logs → IsRefused D writes (object h)) → r ≡ Err NoRoom → 3 ≤ s.logs → IsRefused D writes (object_on s)
-  room_of h gs s e r room none three = subst (λ (x : Shelf). IsRefused D writes (object_on x)) e (room none (subst (λ (x : Shelf). 3 ≤ x.logs) (sym e) three))
 
   module _ (b : Bool) (l : ℕ) (shelves : List Shelf) (s : Pool) (e : pool b l shelves ≡ s) (heap : ℕ) (m : Shelf) (lt : heap < length shelves) (is : m ≡ slice_index_or shelves heap m) (alike : AreAlike b l shelves) where
     pub stuck_at : {A : Type 0} (r : Result A Refused) → (r ≡ Err NoRoom → 3 ≤ m.logs → IsRefused D writes (object_on m)) → r ≡ Err NoRoom → 3 ≤ s.logs → IsNotTaken D writes s heap

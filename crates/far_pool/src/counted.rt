@@ -1,8 +1,9 @@
 //! A heap, with how often each of its pointers was given up.
 
-ghost use Rattle.std.specs.Prelude.{◌≡◌, ◌≢◌, ◌<◌, ◌≤◌, ◌+◌, ℕ, List, true, false, None, Some, Err, is_some, filter, IfNone, IfOk, IfErr, IfSome, OnErr, OnOk, length, slice_range, vec_len, []};
+ghost use Rattle.std.specs.Prelude.{◌≡◌, ◌<◌, ◌≤◌, ◌+◌, ℕ, List, true, false, None, Some, Err, is_some, filter, IfNone, IfOk, IfErr, IfSome, OnErr, OnOk, length, slice_range, vec_len, []};
 ghost use Rattle.std.specs.Fn.{FnOnceReturnsAtMut, FnOnceTakesAtMut};
 ghost use Rattle.std.specs.Option.{option_map};
+ghost use Rattle.std.specs.Vec.{vec_capacity};
 ghost use Rattle.far_word.specs.declared.refused.Refused.{Refused as Refusal};
 ghost use Rattle.far_word.specs.declared.refused.Refused.TheVariants.{Memory, NoRoom, NotHeld};
 ghost use Rattle.far_word.specs.declared.sizes.TheConstants.{POINTERS};
@@ -220,7 +221,8 @@ impl<D: Device + Drop> Counted<D> {
         ensures barred { found self.old pointer generation ≡ None → result ≡ Err NotHeld }
         ensures why { IfErr result (λ why. IsWhyNotWhole self.old.honest (found self.old pointer generation) why) }
         ensures fault { is_some (found self.old pointer generation) ≡ true → IfErr result (λ why. IsFault why) }
-        ensures given { IfErr result (λ why. why ≢ Memory → IsNotGiven D D.reads pointer (len_of (found self.old pointer generation)) why) }
+        ensures given { IfErr result (λ why. (why ≡ Memory → len_of (found self.old pointer generation) ≤ vec_capacity out.old) → IsNotGiven D D.reads pointer (len_of (found self.old pointer generation)) why) }
+        ensures room { vec_capacity out.old ≤ vec_capacity out.new }
     {
         self.keeps_law();
         let Some(len) = self.len_of(pointer, generation) else {

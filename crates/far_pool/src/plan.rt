@@ -1,6 +1,6 @@
 //! How many heaps a worker needs, and what they cost.
 
-ghost use Rattle.std.specs.Prelude.{◌≡◌, ◌+◌, ◌*◌, ◌/◌, ℕ, ◌<◌, ◌≤◌, ◌⊎◌, IfOk, IfErr, max};
+ghost use Rattle.std.specs.Prelude.{◌≡◌, ◌+◌, ◌*◌, ◌/◌, ℕ, ◌<◌, ◌≤◌, ◌⊎◌, IfOk, IfErr, max, min};
 ghost use Rattle.far_word.specs.declared.sizes.TheConstants.{LONGEST, MOST_LOGS};
 ghost use Rattle.far_pool.specs.Plans.{IsLaid, IsUnplanned, heaps_for, least_logs, least_near};
 
@@ -72,9 +72,12 @@ pub enum Unplanned {
 }
 
 impl Plan {
-    /// A plan for so many bytes near: objects of 64 bytes, four times as many as find room there.
+    /// A plan for so many bytes near: objects of 64 bytes, four times as many as find room there. From 12,288 bytes on it can be laid out.
     pub fn for_near(near: u64) -> Plan
         ensures near { result.near ≡ near }
+        ensures typical { result.typical ≡ 64 }
+        ensures objects { result.objects ≡ min (near / 18) MOST_OBJECTS }
+        ensures enough { 12288 ≤ near → least_near result ≤ near }
     {
         Plan {
             near,

@@ -1,11 +1,12 @@
 //! Heaps that one thread wholly owns, by handles.
 
-ghost use Rattle.std.specs.Prelude.{◌≡◌, ◌≢◌, ◌<◌, ◌+◌, ◌≤◌, ℕ, List, true, false, None, Some, Err, length, slice_range, IfOk, IfErr, IfSome, OnErr, OnOk, vec_len, []};
+ghost use Rattle.std.specs.Prelude.{◌≡◌, ◌<◌, ◌+◌, ◌≤◌, ℕ, List, true, false, None, Some, Err, length, slice_range, IfOk, IfErr, IfSome, OnErr, OnOk, vec_len, []};
 ghost use Rattle.std.specs.Fn.{FnOnceReturnsAtMut, FnOnceTakesAtMut};
+ghost use Rattle.std.specs.Vec.{vec_capacity};
 ghost use Rattle.far_word.specs.declared.refused.Refused.{Refused as Refusal};
-ghost use Rattle.far_word.specs.declared.refused.Refused.TheVariants.{Length, Memory, NoRoom, NotHeld};
+ghost use Rattle.far_word.specs.declared.refused.Refused.TheVariants.{Length, Memory, NoPointer, NoRoom, NotHeld, Shape};
 ghost use Rattle.far_private.specs.Causes.{IsFault, IsNotGiven};
-ghost use Rattle.far_private.specs.Heap.{IsWell, IsWhyNoAccess, is_length, new_object, object_with, size_of, structure_of};
+ghost use Rattle.far_private.specs.Heap.{IsWell, IsWhyNoAccess, is_length, is_logs, new_object, object_with, size_of, structure_of};
 ghost use Rattle.far_pool.specs.declared.handle.Handle.{Handle as AnyHandle};
 ghost use Rattle.far_pool.specs.Pool.{Changes, IsWhyNone, IsWhyNotWhole, Makes, NextGeneration, Same, Updates, Writes, at, bytes_at, generation_in, generation_on, has, len_at, object_on, refusal_of};
 ghost use Rattle.far_pool.specs.Rooms.{IsNotTaken, IsStuck};
@@ -67,8 +68,8 @@ impl<D: Device + Drop, M: MakeDevice<D> + Drop> Worker<D, M> {
     /// A worker of the heaps of a layout, each over a device that `maker` makes. `honest` says that these give back what they were given, and may
     /// be true only of a maker that is proved so; else nothing is promised of bytes.
     ///
-    /// Refused [`Refused::NoPointer`] where there would be more than 2,097,152 heaps, [`Refused::Shape`] where they have less than 2 logs or more than 64,
-    /// [`Refused::Memory`], and as `maker` refuses.
+    /// Refused, in this order: [`Refused::NoPointer`] where there would be more than 2,097,152 heaps, [`Refused::Shape`] where they would have less than 2 logs or more
+    /// than 64, and then, in the midst of making them, as `maker` refuses, and [`Refused::Memory`].
     pub fn new(
         alloc: Global,
         maker: M,
@@ -81,7 +82,15 @@ impl<D: Device + Drop, M: MakeDevice<D> + Drop> Worker<D, M> {
         ensures honest { IfOk result (λ worker. worker.honest ≡ honest) }
         ensures logs { IfOk result (λ worker. worker.logs ≡ layout.logs) }
         ensures heaps { IfOk result (λ worker. length worker.shelves ≡ layout.heaps) }
+        ensures many { MOST_HEAPS < layout.heaps → result ≡ Err NoPointer }
+        ensures shape { layout.heaps ≤ MOST_HEAPS → is_logs layout.logs ≡ false → result ≡ Err Shape }
     {
+        if layout.heaps > MOST_HEAPS {
+            return Err(Refused::NoPointer);
+        }
+        if layout.logs < 2 || layout.logs > 64 {
+            return Err(Refused::Shape);
+        }
         let mut worker = Worker::without_heaps(alloc, maker, layout.logs, honest);
         for number in 0..layout.heaps {
             match worker.add_heap() {
@@ -116,11 +125,12 @@ impl<D: Device + Drop, M: MakeDevice<D> + Drop> Worker<D, M> {
 
     /// Adds a heap behind those that there are, and answers its number. No object changes.
     ///
-    /// Refused [`Refused::NoPointer`] exactly where there are 2,097,152 heaps, and then [`Refused::Shape`], [`Refused::Memory`], and as the maker of devices refuses.
+    /// Refused, in this order: [`Refused::NoPointer`] where there are 2,097,152 heaps; as the maker of devices refuses; [`Refused::Memory`].
     pub fn add_heap(&mut self) -> Result<u32, Refused>
         ensures same { Same self.old self.new }
         ensures more { IfOk result (λ heap. (heap ≡ length self.old.shelves) × (length self.new.shelves ≡ length self.old.shelves + 1)) }
         ensures refused { OnErr result (self.new ≡ self.old) }
+        ensures full { length self.old.shelves ≡ MOST_HEAPS → result ≡ Err NoPointer }
     {
         let Ok(number) = u32::try_from(self.parts.shelves.len()) else {
             return Err(Refused::NoPointer);
@@ -368,8 +378,8 @@ impl<D: Device + Drop, M: MakeDevice<D> + Drop> Worker<D, M> {
 
     /// Reads an object whole into `out`, in place of the bytes that `out` had: one buffer serves many reads, and grows to the longest. It is one access.
     ///
-    /// Refused, in this order: [`Refused::NotHeld`] exactly where the worker hasn't got the object; [`Refused::Memory`] where `out` can't grow; and then as
-    /// [`Worker::read`]. `out` is empty then.
+    /// Refused, in this order: [`Refused::NotHeld`] exactly where the worker hasn't got the object; [`Refused::Memory`] where `out` has too little room and can't
+    /// grow; and then as [`Worker::read`]. `out` is empty then.
     pub fn read_into(&mut self, handle: Handle, out: &mut Vec<u8>) -> Result<(), Refused>
         ensures same { self.new ≡ self.old }
         ensures read { OnOk result (IfSome (bytes_at self.old handle) (λ bytes. out.new.items ≡ bytes)) }
@@ -378,7 +388,8 @@ impl<D: Device + Drop, M: MakeDevice<D> + Drop> Worker<D, M> {
         ensures barred { at self.old handle ≡ None → result ≡ Err NotHeld }
         ensures why { IfErr result (λ why. IsWhyNotWhole self.old.honest (at self.old handle) why) }
         ensures fault { has self.old handle ≡ true → IfErr result (λ why. IsFault why) }
-        ensures given { IfErr result (λ why. why ≢ Memory → IsNotGiven D D.reads handle.pointer (len_at self.old handle) why) }
+        ensures given { IfErr result (λ why. (why ≡ Memory → len_at self.old handle ≤ vec_capacity out.old) → IsNotGiven D D.reads handle.pointer (len_at self.old handle) why) }
+        ensures room { vec_capacity out.old ≤ vec_capacity out.new }
     {
         self.parts.accesses = self.parts.accesses.wrapping_add(1);
         let at = handle.heap as usize;

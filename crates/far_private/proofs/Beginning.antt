@@ -10,9 +10,6 @@ use Rattle.far_private.specs.Objects.{Settled, objects_of, seen}
 pub begins_none : (s : State) (honest : Bool) → world_of s ≡ start honest → (p : ℕ) → (objects_of s).object p ≡ None
 begins_none s honest e p = ap (λ (w : World). seen s.honest (w.object p)) e
 
-pub begins_honest : (s : State) (shape : Shape) (honest : Bool) → s ≡ without_copiers (opening shape honest) → s.honest ≡ honest
-begins_honest s shape honest e = ap (λ (x : State). x.honest) e
-
 pub begins_settled : (s : State) (shape : Shape) (honest : Bool) → s ≡ without_copiers (opening shape honest) → shape.mutators ≡ 8 → Settled s
 begins_settled s shape honest e eight = record {
   mutators = ap (λ (x : State). x.mutators) e ∙ eight;

@@ -1,6 +1,6 @@
 -- What calls leave of objects by number.
-use Rattle.std.proofs.Common.{◌≡◌, ◌≢◌, ℕ, ◌+◌, ◌-◌, ◌≤◌, ◌<◌, ◌&&◌, zero, suc, Bool, true, false, Option, Some, None, is_some, List, [], ◌∷◌, length, take, drop, replicate, refl, sym, ◌∙◌, ap, subst, arith, IfErr, IfSome, OnOk, Result, Ok, Err}
-use Rattle.std.specs.Prelude.{IsSome, if◌then◌else◌, nat_lt, nat_le, slice_index_or, slice_range, slice_set}
+use Rattle.std.proofs.Common.{◌≡◌, ◌≢◌, ℕ, ◌+◌, ◌-◌, ◌≤◌, ◌<◌, ◌&&◌, zero, suc, Bool, true, false, Option, Some, None, is_some, List, [], ◌∷◌, length, replicate, refl, sym, ◌∙◌, ap, subst, IfErr, OnOk, Result, Ok, Err}
+use Rattle.std.specs.Prelude.{IsSome, if◌then◌else◌, nat_lt, nat_le, slice_index_or, slice_set}
 use Rattle.std.specs.Option.{option_map}
 use Rattle.std.proofs.lemmas.Bool.{eq-eqb, false≢true, le-leb, lt-ltb}
 use Rattle.std.proofs.lemmas.List.{get_or-set_other, length-replicate}
@@ -48,16 +48,6 @@ why_same honest o why w = w
 
 pub why_is : (honest : Bool) (o p : Option Refused) (why : Refused) → o ≡ p → IsWhyNoAccess honest o why → IsWhyUnreached IsOutside honest p why
 why_is honest o p why e w = subst (λ x. IsWhyUnreached IsOutside honest x why) e (why_same honest o why w)
-
--- ---- what is read
-pub read_is : (honest : Bool) (o : Option Object) (out : List ℕ) (from count : ℕ) → IsWell honest o → IfSome (bytes_of o) (λ bytes. out ≡ slice_range bytes from (from + count)) → IfSome (bytes_of (fitted honest o)) (λ bytes. out ≡ take count (drop from bytes))
-read_is honest o out from count w r =
-    let same : from + count - from ≡ count = omega arith in
-    subst (λ x. IfSome (bytes_of x) (λ bytes. out ≡ take count (drop from bytes))) (sym (fit_is honest o w)) (subst (λ n. IfSome (bytes_of o) (λ bytes. out ≡ take n (drop from bytes))) same r)
-
--- ---- nothing changed
-pub far_same : (b c : Bool) (o p : ℕ → Option Object) → c ≡ b → ((n : ℕ) → p n ≡ o n) → far_by c p ≡ far_by b o
-far_same b c o p e f = λ i. far_by (e i) (λ n. f n i)
 
 -- ---- one object is another
 module _ (b c : Bool) (o p : ℕ → Option Object) (e : c ≡ b) (h : ℕ) (others : (n : ℕ) → n ≢ h → p n ≡ o n) where
@@ -130,9 +120,6 @@ if_err (Err why) P Q f h = f why h
 pub on_ok : {T : Type 0} (r : Result T Refused) (P Q : Type 0) → (P → Q) → OnOk r P → OnOk r Q
 on_ok (Ok x) P Q f h = f h
 on_ok (Err why) P Q f h = tt
-
-pub why_far : {T : Type 0} (r : Result T Refused) (honest : Bool) (o p : Option Refused) → o ≡ p → IfErr r (λ why. IsWhyNoAccess honest o why) → IfErr r (λ why. IsWhyUnreached IsOutside honest p why)
-why_far r honest o p e h = if_err r (λ why. IsWhyNoAccess honest o why) (λ why. IsWhyUnreached IsOutside honest p why) (λ why w. why_is honest o p why e w) h
 
 -- ---- of a heap: a pointer p is its number n
 module _ (h : Heap) (law : HeapLaw h) (p n : ℕ) (e : p ≡ n) where

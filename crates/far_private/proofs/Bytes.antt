@@ -34,7 +34,7 @@ use Rattle.far_alone.proofs.Leading.{legal_made}
 use Rattle.far_alone.proofs.MadeLemmas.{legal_step}
 use Rattle.far_alone.proofs.Soiling.{soil_bytes, soil_law, soil_len}
 use Rattle.far_alone.proofs.Spliced.{AreBytes, length-with_range, packed_wide, with_range_bytes}
-use Rattle.far_private.specs.Objects.{Object, Objects, bytes_in, bytes_of, known, len_in, len_of, objects_of, rewritten, seen, with_written}
+use Rattle.far_private.specs.Objects.{Object, known, len_in, len_of, objects_of, rewritten, seen, with_written}
 use Rattle.far_alone.proofs.AloneBytes.{over_with_range}
 use Rattle.far_alone.proofs.Storing.{stores_made}
 
@@ -52,9 +52,6 @@ module _ (t : State) (law : Law t) (p : ℕ) (held : IsSome (t.held p)) where
   thing : (o : Thing) × ((world_of t).object p ≡ Some o) × (o.bytes ≡ data_of t p)
   thing = object_viewed t law p at.0 at.1
 
-  pub held_bytes : bytes_in (objects_of t) p ≡ known t.honest (data_of t p)
-  held_bytes = ap (λ x. bytes_of (seen t.honest x)) thing.1 ∙ ap (known t.honest) thing.2
-
   pub held_len : len_in (objects_of t) p ≡ data_len t p
   held_len = ap (λ x. len_of (seen t.honest x)) thing.1 ∙ ap length thing.2 ∙ length-data t p
 
@@ -66,11 +63,6 @@ used_len s law p used = let h = object_used s law p used in ap (λ x. len_of (se
 pub by_known : (b : Bool) (whole out : List ℕ) (from to : ℕ) → out ≡ slice_range whole from to → IfSome (known b whole) (λ bytes. out ≡ slice_range bytes from to)
 by_known true whole out from to e = e
 by_known false whole out from to e = tt
-
-pub read_so : (s t : State) → Law t → (p : ℕ) → IsSome (t.held p) → objects_of t ≡ objects_of s → (out : List ℕ) (from to : ℕ) → out ≡ slice_range (data_of t p) from to →
-    IfSome (bytes_in (objects_of s) p) (λ bytes. out ≡ slice_range bytes from to)
-read_so s t law p held same out from to e =
-    subst (λ x. IfSome x (λ bytes. out ≡ slice_range bytes from to)) (sym (held_bytes t law p held) ∙ ap (λ (o : Objects). bytes_in o p) same) (by_known t.honest (data_of t p) out from to e)
 
 -- ---- stores
 -- a state in which stores were made
@@ -109,9 +101,6 @@ module _ (t : State) (law : Law t) (p from count : ℕ) (new : List ℕ) (held :
   pub ready_law : Law soiled
   ready_law = soil_law t law (p / CELLS) p (near t law p held).len (at t law p held).0 h
 
-  pub ready_held : IsSome (soiled.held p)
-  ready_held = held
-
   pub ready_bytes : data_of soiled p ≡ data_of t p
   ready_bytes = soil_bytes t law (p / CELLS) p (near t law p held).len (at t law p held).0 h
 
@@ -140,15 +129,6 @@ module _ (t : State) (law : Law t) (p from count : ℕ) (new : List ℕ) (held :
 
     pub legal_so : AllLegal v (made v) → AllSucceed soiled row
     legal_so all = legal_made soiled row (subst (AllLegal soiled) rows_are (subst (λ (x : State). AllLegal x (made x)) e all))
-
-  pub soiled_inside : (v : State) → v ≡ soiled → from + count ≤ data_len v p
-  soiled_inside v e = subst (λ (x : State). from + count ≤ data_len x p) (sym e) (omega (arith, inside, ready_len))
-
-  pub soiled_then : (v : State) → v ≡ soiled → v.soiled p ≡ true
-  soiled_then v e = ap (λ (x : State). x.soiled p) e ∙ put_same t.soiled p true p refl
-
-  pub soiled_held : (v : State) → v ≡ soiled → IsSome (v.held p)
-  soiled_held v e = subst (λ (x : State). IsSome (x.held p)) (sym e) held
 
   -- what callers see of it
   within : from + length new ≤ length (data_of t p)

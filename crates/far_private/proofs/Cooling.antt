@@ -10,13 +10,11 @@ use Rattle.far_word.specs.declared.pointer.PtrWord.TheVariants.{Free, Near, Far}
 use Rattle.far_word.specs.declared.sizes.TheConstants.{CELLS}
 use Rattle.far_word.specs.Mark.{marks_with}
 use Rattle.far_word.specs.Pointer.{read_of}
-use Rattle.far_word.specs.Sizes.{size_of}
 use Rattle.far_core.specs.events.Naming.{unmarked}
 use Rattle.far_core.specs.state.Law.{Law, is_dirty}
-use Rattle.far_core.specs.state.Room.{room}
 use Rattle.far_core.specs.state.State.{State}
 use Rattle.far_core.proofs.Put.{put_other}
-use Rattle.far_book.specs.book.Dealing.{goal, goal_of, has_evac, moved_now, order_moved}
+use Rattle.far_book.specs.book.Dealing.{has_evac, moved_now, order_moved}
 use Rattle.far_book.specs.book.Effects.{moved, order_after, stayed}
 use Rattle.far_book.specs.book.Laws.{IsUnmarked}
 use Rattle.far_book.proofs.region.MovesReached.{staying}
@@ -98,13 +96,6 @@ module _ (s : State) (p : ℕ) (law : Law s) (settled : Settled s) (used : s.use
   pub cools_order : (v : State) (o : Option Place) (place : Place) (order now : List ℕ) → o ≡ Some place → v ≡ u → MatchOption o (now ≡ order) (λ x. now ≡ order_moved v p order x) → now ≡ order
   cools_order v o place order now e is told =
       subst (λ y. MatchOption y (now ≡ order) (λ x. now ≡ order_moved v p order x)) e told ∙ ap (λ b. cond b (order_after v order place) order) (ap (λ (x : State). has_evac (read_of (x.cell p))) is ∙ unwanted)
-
-  -- it has where to stay
-  pub cools_somewhere : (v : State) → v ≡ u → goal v p ≡ None → ⊥
-  cools_somewhere v is none =
-      let x = said s p law settled used near in
-      let there : goal v p ≡ Some x.place = ap (λ (y : State). goal y p) is ∙ ap (goal_of u) (asked_read s p law settled used near) ∙ ap (λ b. cond b (room u (size_of x.len) false) (Some x.place)) bare in
-      let odd : Some x.place ≡ None = sym there ∙ none in cc
 
 -- ---- or nothing has to be done
 pub cooled_none : (s : State) (p : ℕ) → (s.used p ≡ true → may_cool (read_of (s.cell p)) ≡ false) → IsCooled s p s

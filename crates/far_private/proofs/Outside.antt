@@ -1,5 +1,5 @@
 -- What an access that may be made is refused for.
-use Rattle.std.proofs.Common.{◌≡◌, ℕ, Bool, Option, Some, None, List, Result, Ok, Err, inl, inr, ap, sym, subst, ◌∙◌}
+use Rattle.std.proofs.Common.{ℕ, Bool, List, Result, Ok, Err, inl, inr, ap, subst}
 use Rattle.std.specs.Prelude.{IfErr}
 use Rattle.far_word.specs.declared.refused.Refused.{Refused}
 use Rattle.far_word.specs.declared.refused.Refused.TheVariants.{Damaged, Device, EpochsSpent, Memory, NoRoom}
@@ -37,10 +37,6 @@ module _ {D : Type 0} (reads : D → ℕ → Result (List ℕ) DeviceFault → D
 -- what is told after calls that callers don't see holds as the heap stood before
 pub outside_before : (s t : State) → Keeps s t → (why : Refused) → IsOutside t.honest why → IsOutside s.honest why
 outside_before s t keeps why = subst (λ b. IsOutside b why) (ap (λ (o : Objects). o.honest) keeps.objects)
-
--- what is refused beforehand isn't allowed
-pub never_outside : (honest : Bool) (o : Option Refused) (why : Refused) → o ≡ Some why → o ≡ None → IsOutside honest why
-never_outside honest o why e f = let odd : Some why ≡ None = sym e ∙ f in absurd cc
 
 -- an answer's cause is another's
 pub err_map : {A : Type 0} {P Q : Refused → Type 0} (r : Result A Refused) → ((why : Refused) → P why → Q why) → IfErr r P → IfErr r Q

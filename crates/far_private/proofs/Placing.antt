@@ -21,7 +21,7 @@ use Rattle.far_core.specs.events.Naming.{is_dropped, naming_of, naming_row}
 use Rattle.far_core.specs.events.Pin.{place_to_view}
 use Rattle.far_core.specs.events.Step.{after}
 use Rattle.far_core.specs.declared.shape.Shape.{Shape}
-use Rattle.far_core.specs.state.Law.{Law, in_use}
+use Rattle.far_core.specs.state.Law.{Law}
 use Rattle.far_core.specs.state.Opening.{opening, without_copiers}
 use Rattle.far_core.specs.state.Room.{room}
 use Rattle.far_core.specs.state.State.{State, put}
@@ -97,13 +97,6 @@ module _ (s : State) (p len ds : ℕ) (place : Place) (law : Law s) (settled : S
 
   way_law : Law t
   way_law = (placing_legal s p len ds place law inside free some most structure found).1
-
-  in_use_so : in_use (read_of (t.cell p)) ≡ true
-  in_use_so = ap in_use (placing_legal s p len ds place law inside free some most structure found).3.cell
-
-  pub adopts : (v : State) → v ≡ t → Legal v (Adopt (p / CELLS) p)
-  adopts v e = subst (λ (x : State). Legal x (Adopt (p / CELLS) p)) (sym e)
-      (let h = placed_owns s p len ds place in (omega (arith, h.mutators, settled.mutators), refl, ap (λ (f : ℕ → Bool). f p) h.used ∙ unused_so, in_use_so))
 
   world : Makes (world_of s) p len ds place.log (world_of t)
   world = (placing_legal s p len ds place law inside free some most structure found).2

@@ -1,11 +1,9 @@
 -- The bytes of a near object, by its place.
-use Rattle.std.proofs.Common.{◌≡◌, ℕ, ◌+◌, ◌*◌, ◌<◌, ◌≤◌, true, false, refl, sym, ap, subst, ◌∙◌, arith, Option, Some, None, List}
-use Rattle.std.specs.Prelude.{IfSome, IsSome, slice_range, Result, OnOk, nat_lt, nat_le, is_some, ◌&&◌, if◌then◌else◌}
-use Rattle.std.proofs.lemmas.Bool.Decides.{nat_tests}
+use Rattle.std.proofs.Common.{◌≡◌, ℕ, ◌+◌, ◌*◌, ◌≤◌, true, false, refl, sym, ap, subst, ◌∙◌, arith, Option, Some, None, List}
+use Rattle.std.specs.Prelude.{IfSome, slice_range, Result, OnOk, nat_lt, nat_le, is_some, ◌&&◌, if◌then◌else◌}
 use Rattle.far_word.specs.declared.refused.Refused.TheVariants.{NotHeld, Range}
 use Rattle.std.proofs.lemmas.Bool.{false≢true, not-true}
 use mathlib.Core.Path.{fun_ext}
-use Rattle.far_word.specs.declared.mark.Marks.{Marks}
 use Rattle.far_word.specs.declared.pointer.Place.{Place}
 use Rattle.far_word.specs.declared.pointer.PtrWord.{PtrWord}
 use Rattle.far_word.specs.declared.pointer.PtrWord.TheVariants.{Near}
@@ -20,7 +18,6 @@ use Rattle.far_core.specs.state.State.{State, addr}
 use Rattle.far_core.specs.events.Step.{near_len, near_data, data_len}
 use Rattle.far_core.specs.world.World.{Object as Thing}
 use Rattle.far_core.specs.world.WorldOf.{world_of}
-use Rattle.far_core.proofs.Bounds.{near_inside}
 use Rattle.far_alone.specs.Dereference.{says_near}
 use Rattle.far_alone.specs.Objects.{data_of, named_len}
 use Rattle.far_alone.proofs.AloneStates.{object_near}
@@ -36,25 +33,9 @@ abbrev pub behind : Place → Place
 behind place = record { log = place.log; at = place.at + 1 }
 
 -- ---- a near object
-pub near_some : (o : Option PtrWord) → says_near o ≡ true → IsSome o
-near_some (Some v) e = refl
-near_some None e = absurd (false≢true e)
-
 pub named_near : (o : Option PtrWord) → says_near o ≡ true → named_len o ≡ near_len o
 named_near (Some (Near len ds place marks)) e = refl
 named_near _ e = absurd (false≢true e)
-
--- a word that says near says where
-pub says_at : (o : Option PtrWord) (len ds : ℕ) (place : Place) (marks : Marks) → o ≡ Some (Near len ds place marks) → SaysAt o place
-says_at o len ds place marks e = (len, ds, marks, e)
-
--- it is none of the others
-pub not_far : (o : Option PtrWord) (v : PtrWord) → o ≡ Some v → says_near o ≡ true → says_near (Some v) ≡ true
-not_far o v e h = ap says_near (sym e) ∙ h
-
--- where its words lie
-pub log_inside : (s : State) → Law s → (p : ℕ) (place : Place) → SaysAt (read_of (s.cell p)) place → place.log < s.logs
-log_inside s law p place (len, ds, marks, e) = (near_inside s law p len ds place marks e).0
 
 pub words_inside : (s : State) → Law s → (p n : ℕ) (place : Place) → SaysAt (read_of (s.cell p)) place → n ≤ data_len s p → place.at + 1 + words_for n ≤ LOG_WORDS
 words_inside s law p n place (len, ds, marks, e) fits =
@@ -125,12 +106,3 @@ module _ (s : State) (law : Law s) (p from count n : ℕ) (used : s.used p ≡ t
 
   pub refuses_range : (nat_lt 0 count && nat_le (from + count) n) ≡ false → access_refusal (objects_of s) p from count ≡ Some Range
   refuses_range e = refusal_is ∙ ap (λ b. if b then None else Some Range) e
-
-  pub refuses_none : (nat_lt 0 count && nat_le (from + count) n) ≡ true → access_refusal (objects_of s) p from count ≡ None
-  refuses_none e = refusal_is ∙ ap (λ b. if b then None else Some Range) e
-
-  pub reached : (nat_lt 0 count && nat_le (from + count) n) ≡ true → (0 < count) × (from + count ≤ len_in (objects_of s) p) × (from + count ≤ LONGEST)
-  reached e =
-      let some : 0 < count = grind (arith, nat_tests) in
-      let fits : from + count ≤ n = grind (arith, nat_tests) in
-      (some, subst (λ k. from + count ≤ k) long fits, omega (arith, fits, len_below s law p n used long))

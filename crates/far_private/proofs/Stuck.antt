@@ -31,11 +31,6 @@ use Rattle.far_private.specs.Steps.{Keeps}
 
 -- ---- what is told of a call that was refused before and after its last round
 module _ {D : Type 0} (writes : D → ℕ → List ℕ → Result (Unit {0}) DeviceFault → D → Type 0) (s : State) where
-  -- one that isn't refused for want of room isn't stuck
-  pub else_stuck : (why : Refused) → why ≢ NoRoom → IsStuck D writes s why
-  else_stuck NoRoom other = absurd (other refl)
-  else_stuck _ other = tt
-
   pub told_stuck : (found : Refused) (made : Result (Unit {0}) Refused) → (OnOk made (found ≢ NoRoom)) → IfErr made (λ why. IsStuck D writes s why) → IsStuck D writes s (told found made)
   told_stuck NoRoom (Ok done) room stuck = absurd (room refl)
   told_stuck NoRoom (Err why) room stuck = stuck

@@ -19,7 +19,7 @@ use Rattle.far_core.specs.state.State.{State}
 use Rattle.far_core.proofs.Cells.{map_mark}
 use Rattle.far_hand.specs.declared.plain.Plain.{Plain}
 use Rattle.far_evac.specs.EvacOf.{EvacOf}
-use Rattle.far_text.specs.Command.{Command, Mutator, Read, View, Write}
+use Rattle.far_text.specs.Command.{Command, Mutator, On, Reads, Writes, Views as UseViews}
 use Rattle.far_replay.specs.Commanded.{AsksFor, KeepsFar, Misled, MisledBy, Outside, Serves, Refuses, Gives, Lacks, Served}
 use Rattle.far_alone.specs.Dereference.{asked_for, come, comes_to, dereferenced, has_no_room, says_near, sought, order_come, order_dereferenced}
 use Rattle.far_alone.specs.Effects.{is_slow, with_data, with_view}
@@ -139,9 +139,7 @@ far_or old mid m p (Err why) law opened own used slow viewed far = λ keeps. far
 
 -- ---- a command that reaches it
 misled_of : (row : ℕ → ℕ) (now : Moment) (c : Command) (m p : ℕ) (r : Reply) (next : Moment) → AsksFor m p c → Misled row now c p r next → MisledBy row now c r next
-misled_of row now (Mutator k (Write q from bytes)) m p r next asks h = subst (λ x. Misled row now (Mutator k (Write q from bytes)) x r next) (sym asks.1) h
-misled_of row now (Mutator k (Read q from len)) m p r next asks h = subst (λ x. Misled row now (Mutator k (Read q from len)) x r next) (sym asks.1) h
-misled_of row now (Mutator k (View q)) m p r next asks h = subst (λ x. Misled row now (Mutator k (View q)) x r next) (sym asks.1) h
+misled_of row now (Mutator k (On q how)) m p r next asks h = subst (λ x. Misled row now (Mutator k (On q how)) x r next) (sym asks.1) h
 misled_of row now c m p r next asks h = absurd asks
 
 -- with its own words it is served; with others it is misled
@@ -248,8 +246,8 @@ module _ (old mid : EvacOf Plain FarSide) (a : Access) (o : Outside) (law : Law 
   ordered : next.order ≡ order_dereferenced now.core now.order a.owner a.pointer
   ordered = x.order
 
-  pub read_makes : (r : Reply) → r ≡ Data (slice_range (data_of (state_in mid) a.pointer) a.from (a.from + a.count)) → Makes old (Mutator a.owner (Read a.pointer a.from a.count)) r mid
-  read_makes r told = given_made old mid a.owner a.pointer o (Mutator a.owner (Read a.pointer a.from a.count)) r law is.used x.given (refl, refl)
+  pub read_makes : (r : Reply) → r ≡ Data (slice_range (data_of (state_in mid) a.pointer) a.from (a.from + a.count)) → Makes old (Mutator a.owner (On a.pointer (Reads a.from a.count))) r mid
+  read_makes r told = given_made old mid a.owner a.pointer o (Mutator a.owner (On a.pointer (Reads a.from a.count))) r law is.used x.given (refl, refl)
       record {
         reply = read_told now a here x.room next.core x.state r told;
         moment = read_made now a here x.room next
@@ -276,8 +274,8 @@ module _ (old mid : EvacOf Plain FarSide) (a : Access) (o : Outside) (law : Law 
         (ap (λ (t : State). with_stored t a.pointer row) stored
         ∙ stores_as_if dirty a.pointer row a.owner a.pointer (packed_word (with_range (data_of dirty a.pointer) a.from bytes)) (range_with_len (first_word a.from) (words_touched a.from a.count)))
 
-    pub write_makes : Makes old (Mutator a.owner (Write a.pointer a.from bytes)) Done new
-    write_makes = given_made old new a.owner a.pointer o (Mutator a.owner (Write a.pointer a.from bytes)) Done law is.used x.given (refl, refl)
+    pub write_makes : Makes old (Mutator a.owner (On a.pointer (Writes a.from bytes))) Done new
+    write_makes = given_made old new a.owner a.pointer o (Mutator a.owner (On a.pointer (Writes a.from bytes))) Done law is.used x.given (refl, refl)
         record {
           reply = ap (λ r. unless r Refused Done) (sym (writes_room now a here bytes long false x.room));
           moment = write_made now a here x.room bytes long end
@@ -305,10 +303,10 @@ module _ (old new : EvacOf Plain FarSide) (m p : ℕ) (o : Outside) (law : Law (
   before_law : Law before.core
   before_law = given_law o (state_in old) (far_in old) p law used x.given
 
-  pub view_makes : Makes old (Mutator m (View p)) Done new
+  pub view_makes : Makes old (Mutator m (On p UseViews)) Done new
   view_makes =
       let led = derefs before.core m p before_law opened (uses_own before.core m p own used) x.room in
-      given_made old new m p o (Mutator m (View p)) Done law used x.given (refl, refl)
+      given_made old new m p o (Mutator m (On p UseViews)) Done law used x.given (refl, refl)
       record {
         reply = ap (λ r. unless r Refused Done) (sym (view_cause before later m p opened own used false x.room));
         moment = view_made before later m p opened own used x.room

@@ -1,5 +1,5 @@
 -- What lasts between two commands: the law, and what the program keeps of it; so each command is carried out by its events.
-use Rattle.std.proofs.Common.{◌≡◌, ℕ, Bool, true, sym, ap, subst, ◌∙◌, refl, Option, Some, None, List, [], ◌∷◌, inl, inr, false, length, nat_lt}
+use Rattle.std.proofs.Common.{◌≡◌, ℕ, Bool, true, sym, ap, subst, ◌∙◌, refl, Option, Some, None, List, [], ◌∷◌, inl, inr, false}
 use Rattle.std.specs.Prelude.{All, Contains}
 use Rattle.std.proofs.lemmas.Bool.{cond_both}
 use Rattle.far_core.specs.declared.event.Event.{Event}
@@ -11,18 +11,18 @@ use Rattle.far_core.specs.state.Law.{IsStored, Law}
 use Rattle.far_core.specs.state.Shape.{is_shape}
 use Rattle.far_core.specs.state.State.{State}
 use Rattle.far_core.specs.events.Soil.{after_soil}
-use Rattle.far_core.specs.events.Step.{step_of, is_legal, is_opened, after, answer, Fits}
+use Rattle.far_core.specs.events.Step.{step_of, is_legal, after, answer, Fits}
 use Rattle.far_core.proofs.Keeps.{step_keeps}
 use Rattle.far_core.proofs.Leaving.{events_leave}
 use Rattle.far_log.proofs.Members.{split, none_in, All-from}
 use Rattle.far_core.proofs.Steps.{agrees}
 use Rattle.far_replay.specs.Answers.{Answered, Commanded, Misled, Served, IsMoment, Begins, Comes, Stores, shape_of, first_moment}
-use Rattle.far_text.specs.Command.{Command, Read, Try, View, Write, Mutator, Book, Evacuator, Evacuate, Round, Step}
+use Rattle.far_text.specs.Command.{Command, On, Writes, Try, Mutator, Book, Evacuator, Evacuate, Round, Step}
 use Rattle.far_book.specs.book.FarSide.{kept_len}
 use Rattle.far_replay.specs.Commanded.{AsksFor}
-use Rattle.far_alone.specs.Dereference.{dereferenced, has_no_room}
-use Rattle.far_alone.specs.Objects.{named_len, object_len, uses}
-use Rattle.far_word.specs.declared.refused.Refused.TheVariants.{Closed, Marked, NoRoom, NotHeld, Range}
+use Rattle.far_alone.specs.Dereference.{dereferenced}
+use Rattle.far_alone.specs.Objects.{named_len, object_len}
+use Rattle.far_word.specs.declared.refused.Refused.TheVariants.{Marked}
 use Rattle.far_evac.specs.MomentLaw.{MomentLaw}
 use Rattle.far_evac.specs.declared.answers.RoundEnd.TheVariants.{Limit}
 use Rattle.far_evac.specs.declared.phase.Phase.TheVariants.{Evacuating}
@@ -40,14 +40,14 @@ use Rattle.std.specs.List.{AllByRecursion as Each}
 use Rattle.far_word.specs.Pointer.{read_of}
 use Rattle.far_core.proofs.Cells.{map_mark}
 use Rattle.far_replay.proofs.AsIfStored.{between_as_if, far_is_used, kept_long, law_as_if, misled_fits, no_len, round_as_if, stored_again}
-use Rattle.far_replay.proofs.Dereferences.{Derefs, derefs}
+use Rattle.far_replay.proofs.Dereferences.{Derefs}
 use Rattle.far_alone.proofs.Soiling.{soiled_reads}
 use Rattle.far_replay.proofs.ToldRounds.{told_round, told_effect}
 use Rattle.far_replay.proofs.Outcomes.{by_outcome}
 use Rattle.far_replay.proofs.Opened.{opening_law, opening_between, opening_round, opening_strays}
 use Rattle.far_replay.proofs.RoundLeads.{between_kept, step_keeps as step_leaves, step_leads}
 use Rattle.far_replay.proofs.Strays.{step_strays, told_strays}
-use Rattle.far_replay.proofs.Turns.{access_fact, led, tried, turns}
+use Rattle.far_replay.proofs.Turns.{reached, turns}
 
 pub record Lasts (now : Moment) : Type 0 where
   pub law : Law now.core
@@ -154,16 +154,10 @@ module _ (now : Moment) (law : Law now.core) where
       let odd : no_len ≡ Some len = sym none ∙ e in absurd cc
 
   asked_long : (m p : ℕ) (c : Command) → AsksFor m p c → refusal now c ≡ None → (len : ℕ) → kept_len (read_of ((turn_effect now c).core.cell p)) ≡ Some len → len ≡ object_len now.core p
-  asked_long m p (Mutator k (Write q from bytes)) asks none =
-      let t : State = (turn_effect now (Mutator k (Write q from bytes))).core in
-      subst (λ x. (len : ℕ) → kept_len (read_of (t.cell x)) ≡ Some len → len ≡ object_len now.core x) asks.1 (soiled_long k q (led now.core k q from (length bytes) law (access_fact now.core k q from (length bytes) none)))
-  asked_long m p (Mutator k (Read q from n)) asks none =
-      let t : State = (turn_effect now (Mutator k (Read q from n))).core in
-      subst (λ x. (len : ℕ) → kept_len (read_of (t.cell x)) ≡ Some len → len ≡ object_len now.core x) asks.1 (near_long k q (led now.core k q from n law (access_fact now.core k q from n none)))
-  asked_long m p (Mutator k (View q)) asks none =
-      let t : State = (turn_effect now (Mutator k (View q))).core in
-      let h = tried (nat_lt k now.core.mutators) (is_opened now.core k) (uses now.core k q) (has_no_room now.core k q) Range Closed NotHeld NoRoom none in
-      subst (λ x. (len : ℕ) → kept_len (read_of (t.cell x)) ≡ Some len → len ≡ object_len now.core x) asks.1 (near_long k q (derefs now.core k q law h.1 h.2 h.3))
+  asked_long m p (Mutator k (On q (Writes from bytes))) asks none =
+      let t : State = (turn_effect now (Mutator k (On q (Writes from bytes)))).core in
+      subst (λ x. (len : ℕ) → kept_len (read_of (t.cell x)) ≡ Some len → len ≡ object_len now.core x) asks.1 (soiled_long k q (reached now k q (Writes from bytes) law none))
+  asked_long m p (Mutator k (On q how)) asks none = subst (λ x. (len : ℕ) → kept_len (read_of ((dereferenced now.core k q).cell x)) ≡ Some len → len ≡ object_len now.core x) asks.1 (near_long k q (reached now k q how law none))
   asked_long m p c asks none = absurd asks
 
 module _ (row : ℕ → ℕ) (now : Moment) (c : Command) (m p : ℕ) (r : Reply) (next : Moment) (lasts : Lasts now) (bytes : WritesBytes c) (asks : AsksFor m p c) (h : Misled row now c p r next) where
@@ -205,9 +199,7 @@ pub each_keeps : (P : Moment → Type 0) → ((now : Moment) (c : Command) (r : 
     (now : Moment) (c : Command) (r : Reply) (next : Moment) → P now → WritesBytes c → Commanded now c r next → P next
 each_keeps P served misled now c r next first bytes h = by_outcome now r next (λ d. WritesBytes d → P next)
     (λ d h bytes. served now d r next first bytes h)
-    (λ why m p from new h bytes. served now (Mutator m (Try p)) (Refused (Marked (now.core.cell p))) next first tt h.tried)
-    (λ why m p from len h bytes. served now (Mutator m (Try p)) (Refused (Marked (now.core.cell p))) next first tt h.tried)
-    (λ why m p h bytes. served now (Mutator m (Try p)) (Refused (Marked (now.core.cell p))) next first tt h.tried)
+    (λ why m p how h bytes. served now (Mutator m (Try p)) (Refused (Marked (now.core.cell p))) next first tt h.tried)
     (λ why objects count h bytes. served now (Evacuator (Evacuate objects)) (Evacuated h.progress) next first tt h.left)
     (λ why turns objects policy most count h bytes. served h.stood (Evacuator (Evacuate objects)) (Evacuated h.progress) next
     (served now (Evacuator (Round policy most turns)) (Ended (Limit Evacuating)) h.stood first bytes h.turned) tt h.left)

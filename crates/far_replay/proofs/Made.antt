@@ -6,7 +6,7 @@ use Rattle.far_core.specs.state.Law.{Law}
 use Rattle.far_hand.specs.declared.plain.Plain.{Plain}
 use Rattle.far_evac.specs.declared.answers.EvacFault.{EvacFault}
 use Rattle.far_evac.specs.EvacOf.{EvacOf}
-use Rattle.far_text.specs.Command.{Command, Evacuator, Mutator, Read, Request, Step, Write}
+use Rattle.far_text.specs.Command.{Command, Evacuator, Mutator, On, Use, Reads, Writes, Request, Step}
 use Rattle.far_text.specs.Written.{WritesBytes}
 use Rattle.far_alone.specs.Between.{Between}
 use Rattle.far_replay.specs.Commanded.{AsksFor, Lacks, Refuses, Served, Serves, Stopped, StopsSo}
@@ -119,13 +119,9 @@ barred false false true d rest why e = (sym e, λ room. let odd : NotHeld ≡ No
 barred false false false true rest why e = (sym e, λ room. let odd : Range ≡ NoRoom = named why Range e ∙ room in absurd cc)
 barred false false false false rest why e = absurd cc
 
-write_leaves : (now : Moment) (m p from : ℕ) (bytes : List ℕ) (why : Refusal) → why ≢ NoRoom → refused_effect now (Mutator m (Write p from bytes)) why ≡ now
-write_leaves now m p from bytes NoRoom other = absurd (other refl)
-write_leaves now m p from bytes why other = refl
-
-read_leaves : (now : Moment) (m p from len : ℕ) (why : Refusal) → why ≢ NoRoom → refused_effect now (Mutator m (Read p from len)) why ≡ now
-read_leaves now m p from len NoRoom other = absurd (other refl)
-read_leaves now m p from len why other = refl
+leaves_all : (now : Moment) (m p : ℕ) (how : Use) (why : Refusal) → why ≢ NoRoom → refused_effect now (Mutator m (On p how)) why ≡ now
+leaves_all now m p how NoRoom other = absurd (other refl)
+leaves_all now m p how why other = refl
 
 nothing_made : (old : EvacOf Plain FarSide) (c : Command) (why : Refusal) → refusal (moment_in old) c ≡ Some why → refused_effect (moment_in old) c why ≡ moment_in old → Makes old c (Refused why) old
 nothing_made old c why cause leaves =
@@ -133,12 +129,12 @@ nothing_made old c why cause leaves =
     made_served old old c (Refused why) (sym leaves ∙ ap (λ o. unless o (refused_effect now c) (turn_effect now c)) (sym cause)) (ap (λ o. unless o Refused (turn_reply now c)) (sym cause)) (λ lie n few. few)
     (hold_still c (state_in old) (far_in old)) (refused_told now c (far_in old) why cause)
 
-pub write_barred : (old : EvacOf Plain FarSide) (m p from : ℕ) (bytes : List ℕ) (why : Refusal) → Some why ≡ first_cause (access_causes (moment_in old) m p from (length bytes)) → Makes old (Mutator m (Write p from bytes)) (Refused why) old
+pub write_barred : (old : EvacOf Plain FarSide) (m p from : ℕ) (bytes : List ℕ) (why : Refusal) → Some why ≡ first_cause (access_causes (moment_in old) m p from (length bytes)) → Makes old (Mutator m (On p (Writes from bytes))) (Refused why) old
 write_barred old m p from bytes why e =
     let x = barred _ _ _ _ ((has_no_room (state_in old) m p, NoRoom) ∷ []) why e in
-    nothing_made old (Mutator m (Write p from bytes)) why x.0 (write_leaves (moment_in old) m p from bytes why x.1)
+    nothing_made old (Mutator m (On p (Writes from bytes))) why x.0 (leaves_all (moment_in old) m p (Writes from bytes) why x.1)
 
-pub read_barred : (old : EvacOf Plain FarSide) (m p from len : ℕ) (why : Refusal) → Some why ≡ first_cause (access_causes (moment_in old) m p from len) → Makes old (Mutator m (Read p from len)) (Refused why) old
+pub read_barred : (old : EvacOf Plain FarSide) (m p from len : ℕ) (why : Refusal) → Some why ≡ first_cause (access_causes (moment_in old) m p from len) → Makes old (Mutator m (On p (Reads from len))) (Refused why) old
 read_barred old m p from len why e =
     let x = barred _ _ _ _ ((has_no_room (state_in old) m p, NoRoom) ∷ []) why e in
-    nothing_made old (Mutator m (Read p from len)) why x.0 (read_leaves (moment_in old) m p from len why x.1)
+    nothing_made old (Mutator m (On p (Reads from len))) why x.0 (leaves_all (moment_in old) m p (Reads from len) why x.1)

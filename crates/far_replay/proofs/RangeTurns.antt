@@ -12,7 +12,7 @@ use Rattle.far_core.specs.events.Step.{data_word, is_opened}
 use Rattle.far_core.specs.events.Written.{written_words}
 use Rattle.far_core.specs.state.Law.{Law}
 use Rattle.far_core.specs.state.State.{State}
-use Rattle.far_text.specs.Command.{Command, Mutator, Read, View, Write}
+use Rattle.far_text.specs.Command.{Command, Mutator, On, Reads, Writes, Views}
 use Rattle.far_alone.specs.Dereference.{dereferenced, has_no_room}
 use Rattle.far_alone.specs.Effects.{with_data}
 use Rattle.far_alone.specs.Events.{first_word, store_events, words_touched}
@@ -112,19 +112,19 @@ module _ (now : Moment) (a : Access) (is : IsAccess now.core a.owner a.pointer a
 
 -- ---- what isn't
 module _ (now : Moment) (a : Access) (is : IsAccess now.core a.owner a.pointer a.from a.count a) (room : has_no_room now.core a.owner a.pointer ≡ false) where
-  pub read_made : (next : Moment) → next ≡ with_core now (dereferenced now.core a.owner a.pointer) → next ≡ effect now (Mutator a.owner (Read a.pointer a.from a.count))
+  pub read_made : (next : Moment) → next ≡ with_core now (dereferenced now.core a.owner a.pointer) → next ≡ effect now (Mutator a.owner (On a.pointer (Reads a.from a.count)))
   read_made next to =
-      let c : Command = Mutator a.owner (Read a.pointer a.from a.count) in
+      let c : Command = Mutator a.owner (On a.pointer (Reads a.from a.count)) in
       to ∙ ap (λ o. unless o (refused_effect now c) (turn_effect now c)) (sym (wants_room now a is false room))
 
-  pub read_told : (t : State) → t ≡ dereferenced now.core a.owner a.pointer → (r : Reply) → r ≡ Data (slice_range (data_of t a.pointer) a.from (a.from + a.count)) → r ≡ reply_to now (Mutator a.owner (Read a.pointer a.from a.count))
+  pub read_told : (t : State) → t ≡ dereferenced now.core a.owner a.pointer → (r : Reply) → r ≡ Data (slice_range (data_of t a.pointer) a.from (a.from + a.count)) → r ≡ reply_to now (Mutator a.owner (On a.pointer (Reads a.from a.count)))
   read_told t to r told = told ∙ ap (λ (u : State). Data (slice_range (data_of u a.pointer) a.from (a.from + a.count))) to
-      ∙ ap (λ o. unless o Refused (turn_reply now (Mutator a.owner (Read a.pointer a.from a.count)))) (sym (wants_room now a is false room))
+      ∙ ap (λ o. unless o Refused (turn_reply now (Mutator a.owner (On a.pointer (Reads a.from a.count))))) (sym (wants_room now a is false room))
 
   module _ (new : List ℕ) (long : length new ≡ a.count) where
-    pub write_made : (next : Moment) → next ≡ with_core now (with_data (dereferenced now.core a.owner a.pointer) a.pointer a.from new) → next ≡ effect now (Mutator a.owner (Write a.pointer a.from new))
+    pub write_made : (next : Moment) → next ≡ with_core now (with_data (dereferenced now.core a.owner a.pointer) a.pointer a.from new) → next ≡ effect now (Mutator a.owner (On a.pointer (Writes a.from new)))
     write_made next to =
-        let c : Command = Mutator a.owner (Write a.pointer a.from new) in
+        let c : Command = Mutator a.owner (On a.pointer (Writes a.from new)) in
         to ∙ ap (λ o. unless o (refused_effect now c) (turn_effect now c)) (sym (writes_room now a is new long false room))
 
 -- ---- a view
@@ -135,11 +135,11 @@ by_view true false c d x y z = absurd (false≢true y)
 by_view false b c d x y z = absurd (false≢true x)
 
 module _ (now next : Moment) (m p : ℕ) (opened : is_opened now.core m ≡ true) (own : p / CELLS ≡ m) (used : now.core.used p ≡ true) where
-  pub view_cause : (b : Bool) → has_no_room now.core m p ≡ b → refusal now (Mutator m (View p)) ≡ (if b then Some NoRoom else None)
+  pub view_cause : (b : Bool) → has_no_room now.core m p ≡ b → refusal now (Mutator m (On p Views)) ≡ (if b then Some NoRoom else None)
   view_cause b e = by_view (nat_lt m now.core.mutators) (is_opened now.core m) (uses now.core m p) (has_no_room now.core m p) (opened_inside now.core m opened) opened (uses_own now.core m p own used)
       ∙ ap (λ x. if x then Some NoRoom else None) e
 
-  pub view_made : has_no_room now.core m p ≡ false → next ≡ with_core now (dereferenced now.core m p) → next ≡ effect now (Mutator m (View p))
+  pub view_made : has_no_room now.core m p ≡ false → next ≡ with_core now (dereferenced now.core m p) → next ≡ effect now (Mutator m (On p Views))
   view_made room to =
-      let c : Command = Mutator m (View p) in
+      let c : Command = Mutator m (On p Views) in
       to ∙ ap (λ o. unless o (refused_effect now c) (turn_effect now c)) (sym (view_cause false room))

@@ -6,7 +6,7 @@ use Rattle.far_word.specs.declared.refused.Refused.{Refused as Refusal}
 use Rattle.far_core.specs.state.State.{State}
 use Rattle.far_hand.specs.declared.plain.Plain.{Plain}
 use Rattle.far_evac.specs.EvacOf.{EvacOf}
-use Rattle.far_text.specs.Command.{Command, Drop, Evacuate, Evacuator, Mutator, Read, Round, View, Write}
+use Rattle.far_text.specs.Command.{Command, Drop, Evacuate, Evacuator, Mutator, On, Round}
 use Rattle.far_replay.specs.Commanded.{AsksFor, Gives, Serves}
 use Rattle.far_alone.specs.Dereference.{says_near}
 use Rattle.far_replay.specs.Far.{FarBytes, HoldsBy, HoldsSame, IsTold, ToldBy, far_of}
@@ -24,9 +24,7 @@ holds_both old mid new a b q = b q ∙ a q
 
 -- so it is after a command that asks for an object's words
 pub asks_hold : (m p : ℕ) (c : Command) (s t : State) (held now : FarBytes) → AsksFor m p c → ((q : ℕ) → now q ≡ held q) → HoldsBy c s t held now
-asks_hold m p (Mutator k (Write q from bytes)) s t held now asks same = same
-asks_hold m p (Mutator k (Read q from len)) s t held now asks same = same
-asks_hold m p (Mutator k (View q)) s t held now asks same = same
+asks_hold m p (Mutator k (On q how)) s t held now asks same = same
 asks_hold m p c s t held now asks same = absurd asks
 
 -- and after one that changes nothing
@@ -47,9 +45,7 @@ refused_told now c held why cause = λ m p asks far allowed. absurd (no_refusal 
 
 -- a command asks for one object
 asked_one : (m p k q : ℕ) (c : Command) → AsksFor m p c → AsksFor k q c → p ≡ q
-asked_one m p k q (Mutator j (Write x from bytes)) a b = sym a.1 ∙ b.1
-asked_one m p k q (Mutator j (Read x from len)) a b = sym a.1 ∙ b.1
-asked_one m p k q (Mutator j (View x)) a b = sym a.1 ∙ b.1
+asked_one m p k q (Mutator j (On x how)) a b = sym a.1 ∙ b.1
 asked_one m p k q c a b = absurd a
 
 -- of which it was told what its dereference was

@@ -1,26 +1,24 @@
 -- Each command that is told by events leaves a round alone, and so keeps what is true of a heap between two calls of the evacuator.
-use Rattle.std.proofs.Common.{◌≡◌, ℕ, true, ◌&&◌, nat_lt, nat_le, refl, sym, subst, Option, Some, None, is_some, length, false, ◌∙◌}
+use Rattle.std.proofs.Common.{◌≡◌, ℕ, true, ◌&&◌, nat_lt, nat_le, refl, sym, subst, Option, Some, None, is_some, false, ◌∙◌}
 use Rattle.std.proofs.lemmas.Bool.{false≢true}
 use Rattle.far_word.specs.declared.pointer.Place.{Place}
 use Rattle.far_word.specs.declared.refused.Refused.{Refused as Refusal}
-use Rattle.far_word.specs.declared.refused.Refused.TheVariants.{NoRoom, NoPointer, Length, Closed, NotHeld, Range, Marked}
+use Rattle.far_word.specs.declared.refused.Refused.TheVariants.{NoRoom, NoPointer, Length, Range, Marked}
 use Rattle.far_word.specs.declared.sizes.TheConstants.{LONGEST}
 use Rattle.far_word.specs.Sizes.{size_of}
-use Rattle.far_core.specs.events.Step.{is_opened}
 use Rattle.far_core.specs.state.Law.{Law}
 use Rattle.far_core.specs.state.Room.{room}
 use Rattle.far_core.specs.state.State.{State}
 use Rattle.far_evac.specs.Callers.{StepsAside}
 use Rattle.far_evac.specs.MomentLaw.{MomentLaw}
 use Rattle.far_evac.proofs.StepsAside.{steps_keep}
-use Rattle.far_text.specs.Command.{Command, New, Open, Write, Read, Close, Where, Drop, View, Try, Epoch, Mutator, Book, Evacuator}
-use Rattle.far_alone.specs.Dereference.{has_no_room}
+use Rattle.far_text.specs.Command.{Command, New, Open, On, Writes, Close, Where, Drop, Try, Epoch, Mutator, Book, Evacuator}
 use Rattle.far_replay.specs.Events.{IsNoStep}
 use Rattle.far_replay.specs.Moment.{Moment, with_core}
-use Rattle.far_alone.specs.Objects.{is_range, lowest_cell, object_len, uses}
+use Rattle.far_alone.specs.Objects.{lowest_cell}
 use Rattle.far_replay.specs.Turn.{effect, refusal, refused_effect, turn_effect, unless, with_new}
 use Rattle.far_replay.proofs.Asides.{close_aside, derefs_aside, epoch_aside, new_aside, same_aside, scope_aside, sought_aside, view_aside, without_aside, writes_aside}
-use Rattle.far_replay.proofs.Turns.{five, four, new_sizes, tried}
+use Rattle.far_replay.proofs.Turns.{four, may_reach, new_sizes}
 use Rattle.far_replay.proofs.WithCore.{same_core}
 
 -- ---- the core that a command makes is all that it makes
@@ -31,9 +29,7 @@ told_turn now (Evacuator step) told = absurd told
 told_turn now _ told = refl
 
 told_refused : (now : Moment) (c : Command) (why : Refusal) → IsNoStep c → refused_effect now c why ≡ with_core now (refused_effect now c why).core
-told_refused now (Mutator m (Write p from bytes)) NoRoom told = refl
-told_refused now (Mutator m (Read p from len)) NoRoom told = refl
-told_refused now (Mutator m (View p)) NoRoom told = refl
+told_refused now (Mutator m (On p how)) NoRoom told = refl
 told_refused now (Mutator m (Try p)) (Marked word) told = refl
 told_refused now (Evacuator step) why told = absurd told
 told_refused now c why told = sym (same_core now)
@@ -57,29 +53,22 @@ turn_aside now (Mutator m (New len ds)) told law e =
     let h = four (nat_lt m s.mutators && nat_lt ds 256) (nat_lt 0 len && nat_le len LONGEST) (is_some (lowest_cell s m)) (is_some (room s (size_of len) true)) Range Length NoPointer NoRoom e in
     new_at s m len ds (lowest_cell s m) (room s (size_of len) true) law h.0 h.1 refl refl
 turn_aside now (Mutator m Open) told law e = scope_aside now.core m
-turn_aside now (Mutator m (Write p from bytes)) told law e =
+turn_aside now (Mutator m (On p (Writes from bytes))) told law e =
     let s : State = now.core in
-    let h = five (nat_lt m s.mutators) (is_opened s m) (uses s m p) (is_range (object_len s p) from (length bytes)) (has_no_room s m p) e in
-    writes_aside s m p from bytes law h.1 h.2 h.4
-turn_aside now (Mutator m (Read p from len)) told law e =
-    let s : State = now.core in
-    let h = five (nat_lt m s.mutators) (is_opened s m) (uses s m p) (is_range (object_len s p) from len) (has_no_room s m p) e in
-    derefs_aside s m p law h.1 h.2 h.4
+    let h = may_reach now m p (Writes from bytes) e in
+    writes_aside s m p from bytes law h.0 h.1 h.2
+turn_aside now (Mutator m (On p how)) told law e =
+    let h = may_reach now m p how e in
+    derefs_aside now.core m p law h.0 h.1 h.2
 turn_aside now (Mutator m Close) told law e = close_aside now.core m
 turn_aside now (Mutator m (Drop p)) told law e = without_aside now.core m p
-turn_aside now (Mutator m (View p)) told law e =
-    let s : State = now.core in
-    let h = tried (nat_lt m s.mutators) (is_opened s m) (uses s m p) (has_no_room s m p) Range Closed NotHeld NoRoom e in
-    derefs_aside s m p law h.1 h.2 h.3
 turn_aside now (Mutator m (Try p)) told law e = view_aside now.core p
 turn_aside now (Mutator m Epoch) told law e = epoch_aside now.core m
 turn_aside now (Evacuator step) told law e = absurd told
 turn_aside now _ told law e = same_aside now.core
 
 refused_aside : (now : Moment) (c : Command) (why : Refusal) → IsNoStep c → StepsAside now.core (refused_effect now c why).core
-refused_aside now (Mutator m (Write p from bytes)) NoRoom told = sought_aside now.core m p
-refused_aside now (Mutator m (Read p from len)) NoRoom told = sought_aside now.core m p
-refused_aside now (Mutator m (View p)) NoRoom told = sought_aside now.core m p
+refused_aside now (Mutator m (On p how)) NoRoom told = sought_aside now.core m p
 refused_aside now (Mutator m (Try p)) (Marked word) told = view_aside now.core p
 refused_aside now (Evacuator step) why told = absurd told
 refused_aside now c why told = same_aside now.core

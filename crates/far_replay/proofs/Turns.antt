@@ -32,7 +32,7 @@ use Rattle.far_core.proofs.Owing.{is_test}
 use Rattle.far_core.proofs.RoomLaws.{room_right}
 use Rattle.far_core.proofs.Put.{put_same, put_old, put_other}
 use Rattle.far_replay.specs.Moment.{Moment, moment_of}
-use Rattle.far_text.specs.Command.{Command, New, Open, Write, Read, Close, Where, Drop, View, Try, Epoch, Mutator, Book, Evacuator}
+use Rattle.far_text.specs.Command.{Command, New, Open, On, Use, Reads, Writes, Views, Close, Where, Drop, Try, Epoch, Mutator, Book, Evacuator}
 use Rattle.far_core.specs.events.Ranges.{after_events, with_row}
 use Rattle.far_alone.specs.EventRows.{AllSucceed}
 use Rattle.far_alone.specs.Between.{Between}
@@ -117,6 +117,27 @@ access_fact s m p from count e =
     let some : 0 < count = grind (arith, nat_tests, range) in
     let within : from + count ≤ object_len s p = grind (arith, nat_tests, range) in
     record { opened = h.1; ours = h.2; some = some; within = within; room = h.4 }
+
+-- what a command that may reach an object has: an open scope, the object, and room for it; and what one has that is refused for want of room
+pub may_reach : (now : Moment) (m p : ℕ) (how : Use) → refusal now (Mutator m (On p how)) ≡ None → (is_opened now.core m ≡ true) × (uses now.core m p ≡ true) × (has_no_room now.core m p ≡ false)
+may_reach now m p (Writes from bytes) e =
+    let h = five (nat_lt m now.core.mutators) (is_opened now.core m) (uses now.core m p) (is_range (object_len now.core p) from (length bytes)) (has_no_room now.core m p) e in (h.1, h.2, h.4)
+may_reach now m p (Reads from len) e =
+    let h = five (nat_lt m now.core.mutators) (is_opened now.core m) (uses now.core m p) (is_range (object_len now.core p) from len) (has_no_room now.core m p) e in (h.1, h.2, h.4)
+may_reach now m p Views e =
+    let h = tried (nat_lt m now.core.mutators) (is_opened now.core m) (uses now.core m p) (has_no_room now.core m p) Range Closed NotHeld NoRoom e in (h.1, h.2, h.3)
+
+pub lacks_place : (now : Moment) (m p : ℕ) (how : Use) → refusal now (Mutator m (On p how)) ≡ Some NoRoom → (is_opened now.core m ≡ true) × (uses now.core m p ≡ true) × (has_no_room now.core m p ≡ true)
+lacks_place now m p (Writes from bytes) e =
+    let h = room_lacks (nat_lt m now.core.mutators) (is_opened now.core m) (uses now.core m p) (is_range (object_len now.core p) from (length bytes)) (has_no_room now.core m p) e in (h.1, h.2, h.3)
+lacks_place now m p (Reads from len) e =
+    let h = room_lacks (nat_lt m now.core.mutators) (is_opened now.core m) (uses now.core m p) (is_range (object_len now.core p) from len) (has_no_room now.core m p) e in (h.1, h.2, h.3)
+lacks_place now m p Views e =
+    let h = room_last (nat_lt m now.core.mutators) (is_opened now.core m) (uses now.core m p) (has_no_room now.core m p) e in (h.1, h.2, h.3)
+
+-- what its dereference comes to
+pub reached : (now : Moment) (m p : ℕ) (how : Use) → Law now.core → refusal now (Mutator m (On p how)) ≡ None → Derefs now.core m p
+reached now m p how law e = let h = may_reach now m p how e in derefs now.core m p law h.0 h.1 h.2
 
 -- ---- reads
 -- a read of an object's words
@@ -475,16 +496,16 @@ command_turned now (Mutator m Open) told law between small e =
 command_turned now (Mutator m Epoch) told law between small e =
     let h = two (nat_lt m now.core.mutators) (is_opened now.core m) Range AlreadyOpen e in
     read_turned now.core m law between (scope_is_shut now.core m h.0 h.1)
-command_turned now (Mutator m (Write p from bytes)) told law between small e =
+command_turned now (Mutator m (On p (Writes from bytes))) told law between small e =
     let access = access_fact now.core m p from (length bytes) e in
     let there : State = dereferenced now.core m p in
     let view = led now.core m p from (length bytes) law access in
     let used : there.used p ≡ true = view.law.views.held_used p (ap is_some view.view.holds.rests) in
-    turned_by now.core (with_data there p from bytes) (turn_events now (Mutator m (Write p from bytes))) law (write_leads now.core m p from bytes law access small)
+    turned_by now.core (with_data there p from bytes) (turn_events now (Mutator m (On p (Writes from bytes)))) law (write_leads now.core m p from bytes law access small)
     (between_by there (with_data there p from bytes) p refl (λ q ne. put_other there.cell p _ q ne) used (view.between between))
-command_turned now (Mutator m (Read p from len)) told law between small e =
+command_turned now (Mutator m (On p (Reads from len))) told law between small e =
     let access = access_fact now.core m p from len e in
-    turned_by now.core (dereferenced now.core m p) (turn_events now (Mutator m (Read p from len))) law (read_leads now.core m p from len law access) ((led now.core m p from len law access).between between)
+    turned_by now.core (dereferenced now.core m p) (turn_events now (Mutator m (On p (Reads from len)))) law (read_leads now.core m p from len law access) ((led now.core m p from len law access).between between)
 command_turned now (Mutator m Close) told law between small e = close_turned now.core m law between (two_open (nat_lt m now.core.mutators) (is_opened now.core m) e) where
   two_open : (a b : Bool) → first_cause ((not a, Range) ∷ (not b, Closed) ∷ []) ≡ None → b ≡ true
   two_open true true f = refl
@@ -492,9 +513,8 @@ command_turned now (Mutator m Close) told law between small e = close_turned now
   two_open false b f = absurd cc
 command_turned now (Mutator m (Where p)) told law between small e = none_turned now.core law between
 command_turned now (Mutator m (Drop p)) told law between small e = drop_turned now.core m p law between (three (nat_lt m now.core.mutators) (uses now.core m p) (is_some (now.core.held p)) Range NotHeld Held e)
-command_turned now (Mutator m (View p)) told law between small e =
-    let h = tried (nat_lt m now.core.mutators) (is_opened now.core m) (uses now.core m p) (has_no_room now.core m p) Range Closed NotHeld NoRoom e in
-    let all = derefs now.core m p law h.1 h.2 h.3 in
+command_turned now (Mutator m (On p Views)) told law between small e =
+    let all = reached now m p Views law e in
     turned_by now.core (dereferenced now.core m p) (dereference_events now.core m p) law all.leads (all.between between)
 command_turned now (Mutator m (Try p)) told law between small e =
     let h = tried (nat_lt m now.core.mutators) (is_opened now.core m) (uses now.core m p) (is_slow now.core p) Range Closed NotHeld (Marked (now.core.cell p)) e in
@@ -511,15 +531,9 @@ sought_turned s m p law between opened ours full =
 -- a refused one: where a mark was found, the pin; where there was no place, the owner's asking too; else nothing
 refused_turned : (now : Moment) (c : Command) (why : Refusal) → IsNoStep c → Law now.core → Between now.core → refusal now c ≡ Some why →
     Turned now.core (refused_events now c why) (refused_effect now c why).core
-refused_turned now (Mutator m (Write p from bytes)) NoRoom told law between e =
-    let h = room_lacks (nat_lt m now.core.mutators) (is_opened now.core m) (uses now.core m p) (is_range (object_len now.core p) from (length bytes)) (has_no_room now.core m p) e in
-    sought_turned now.core m p law between h.1 h.2 h.3
-refused_turned now (Mutator m (Read p from len)) NoRoom told law between e =
-    let h = room_lacks (nat_lt m now.core.mutators) (is_opened now.core m) (uses now.core m p) (is_range (object_len now.core p) from len) (has_no_room now.core m p) e in
-    sought_turned now.core m p law between h.1 h.2 h.3
-refused_turned now (Mutator m (View p)) NoRoom told law between e =
-    let h = room_last (nat_lt m now.core.mutators) (is_opened now.core m) (uses now.core m p) (has_no_room now.core m p) e in
-    sought_turned now.core m p law between h.1 h.2 h.3
+refused_turned now (Mutator m (On p how)) NoRoom told law between e =
+    let h = lacks_place now m p how e in
+    sought_turned now.core m p law between h.0 h.1 h.2
 refused_turned now (Mutator m (Try p)) (Marked word) told law between e =
     let h = marked_last (nat_lt m now.core.mutators) (is_opened now.core m) (uses now.core m p) (is_slow now.core p) (now.core.cell p) word e in
     view_turned now.core m p law between h.1 h.2

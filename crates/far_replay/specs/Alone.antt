@@ -7,7 +7,7 @@ use Rattle.far_core.specs.state.State.{State, put}
 use Rattle.far_core.specs.world.WorldOf.{world_of}
 use Rattle.far_book.specs.declared.home.Home.{Home}
 use Rattle.far_book.specs.declared.home.Home.TheVariants.{Near, Far}
-use Rattle.far_text.specs.Command.{Command, New, Open, Write, Read, Close, Where, Drop, View, Try, Epoch, Mutator, Book, Evacuator}
+use Rattle.far_text.specs.Command.{Command, New, Open, On, Use, Reads, Writes, Views, Close, Where, Drop, Try, Epoch, Mutator, Book, Evacuator}
 use Rattle.far_replay.specs.Commanded.{AsksFor}
 use Rattle.far_reply.specs.Reply.{Reply, Done, Pointer, Data, Lies, EpochRead, Refused}
 use Rattle.far_alone.specs.Objects.{with_range}
@@ -20,6 +20,17 @@ IsOut bytes from count = (count ≡ 0) ⊎ (length bytes < from + count)
 abbrev pub IsIn : List ℕ → ℕ → ℕ → Type 0
 IsIn bytes from count = (0 < count) × (from + count ≤ length bytes)
 
+-- what it asks for is a part of the object; or it isn't. A view asks for no part
+abbrev pub FitsIn : List ℕ → Use → Type 0
+FitsIn bytes (Reads from len) = IsIn bytes from len
+FitsIn bytes (Writes from new) = IsIn bytes from (length new)
+FitsIn bytes Views = Unit {0}
+
+abbrev pub PassesEnd : List ℕ → Use → Type 0
+PassesEnd bytes (Reads from len) = IsOut bytes from len
+PassesEnd bytes (Writes from new) = IsOut bytes from (length new)
+PassesEnd bytes Views = ⊥
+
 -- an object that lies near
 abbrev pub IsNear : Home → Type 0
 IsNear (Near place marks) = Unit {0}
@@ -31,6 +42,19 @@ HasLeft m o = (p : ℕ) × (p / CELLS ≡ m) × (o.object p ≡ None)
 
 abbrev pub HasAll : ℕ → Own → Type 0
 HasAll m o = (p : ℕ) → p / CELLS ≡ m → o.object p ≢ None
+
+-- what it knows after it read, wrote or viewed an object, or was refused that
+abbrev pub KnowsUse : Own → ℕ → Reply → Use → Own → Type 0
+KnowsUse o p (Refused Closed) how q = (o.opened ≡ false) × (q ≡ o)
+KnowsUse o p (Refused NotHeld) how q = (o.opened ≡ true) × (o.object p ≡ None) × (q ≡ o)
+KnowsUse o p (Refused Range) how q = (o.opened ≡ true) × (q ≡ o) × ((all : List ℕ) × (o.object p ≡ Some all) × PassesEnd all how)
+KnowsUse o p (Refused NoRoom) how q = (o.opened ≡ true) × (o.viewed p ≡ false) × (q ≡ o) × ((all : List ℕ) × (o.object p ≡ Some all) × FitsIn all how)
+KnowsUse o p (Refused Device) how q = (o.opened ≡ true) × (o.viewed p ≡ false) × (q ≡ o) × ((all : List ℕ) × (o.object p ≡ Some all) × FitsIn all how)
+KnowsUse o p (Refused Damaged) how q = (o.opened ≡ true) × (o.viewed p ≡ false) × (q ≡ o) × ((all : List ℕ) × (o.object p ≡ Some all) × FitsIn all how)
+KnowsUse o p (Data bytes) (Reads from len) q = (o.opened ≡ true) × (q ≡ record o { viewed = put o.viewed p true }) × ((all : List ℕ) × (o.object p ≡ Some all) × IsIn all from len × (bytes ≡ slice_range all from (from + len)))
+KnowsUse o p Done (Writes from new) q = (o.opened ≡ true) × ((all : List ℕ) × (o.object p ≡ Some all) × IsIn all from (length new) × (q ≡ record o { object = put o.object p (Some (with_range all from new)); viewed = put o.viewed p true }))
+KnowsUse o p Done Views q = (o.opened ≡ true) × (q ≡ record o { viewed = put o.viewed p true }) × ((all : List ℕ) × (o.object p ≡ Some all))
+KnowsUse o p _ _ q = ⊥
 
 -- a command of the mutator m with its reply takes what it knows from o to q. A refusal is the first of its row that applies; so 3 comes exactly where nothing earlier applies and all
 -- its objects exist. Which of its own numbers a new object gets, whether 2, and then 10 or 11, comes where nothing earlier applies, where an object is, and whether a mark keeps it from being viewed, depends on cells and
@@ -45,31 +69,12 @@ Knows m o (Mutator _ Open) Done q = (o.opened ≡ false) × (q ≡ record o { op
 Knows m o (Mutator _ Open) (Refused AlreadyOpen) q = (o.opened ≡ true) × (q ≡ o)
 Knows m o (Mutator _ Close) Done q = (o.opened ≡ true) × (q ≡ record o { opened = false; viewed = λ _. false })
 Knows m o (Mutator _ Close) (Refused Closed) q = (o.opened ≡ false) × (q ≡ o)
-Knows m o (Mutator _ (Read p from len)) (Data bytes) q = (o.opened ≡ true) × (q ≡ record o { viewed = put o.viewed p true }) × ((all : List ℕ) × (o.object p ≡ Some all) × IsIn all from len × (bytes ≡ slice_range all from (from + len)))
-Knows m o (Mutator _ (Read p from len)) (Refused Closed) q = (o.opened ≡ false) × (q ≡ o)
-Knows m o (Mutator _ (Read p from len)) (Refused NotHeld) q = (o.opened ≡ true) × (o.object p ≡ None) × (q ≡ o)
-Knows m o (Mutator _ (Read p from len)) (Refused Range) q = (o.opened ≡ true) × (q ≡ o) × ((all : List ℕ) × (o.object p ≡ Some all) × IsOut all from len)
-Knows m o (Mutator _ (Read p from len)) (Refused NoRoom) q = (o.opened ≡ true) × (o.viewed p ≡ false) × (q ≡ o) × ((all : List ℕ) × (o.object p ≡ Some all) × IsIn all from len)
-Knows m o (Mutator _ (Read p from len)) (Refused Device) q = (o.opened ≡ true) × (o.viewed p ≡ false) × (q ≡ o) × ((all : List ℕ) × (o.object p ≡ Some all) × IsIn all from len)
-Knows m o (Mutator _ (Read p from len)) (Refused Damaged) q = (o.opened ≡ true) × (o.viewed p ≡ false) × (q ≡ o) × ((all : List ℕ) × (o.object p ≡ Some all) × IsIn all from len)
-Knows m o (Mutator _ (Write p from new)) (Refused NoRoom) q = (o.opened ≡ true) × (o.viewed p ≡ false) × (q ≡ o) × ((all : List ℕ) × (o.object p ≡ Some all) × IsIn all from (length new))
-Knows m o (Mutator _ (Write p from new)) (Refused Device) q = (o.opened ≡ true) × (o.viewed p ≡ false) × (q ≡ o) × ((all : List ℕ) × (o.object p ≡ Some all) × IsIn all from (length new))
-Knows m o (Mutator _ (Write p from new)) (Refused Damaged) q = (o.opened ≡ true) × (o.viewed p ≡ false) × (q ≡ o) × ((all : List ℕ) × (o.object p ≡ Some all) × IsIn all from (length new))
-Knows m o (Mutator _ (Write p from new)) Done q = (o.opened ≡ true) × ((all : List ℕ) × (o.object p ≡ Some all) × IsIn all from (length new) × (q ≡ record o { object = put o.object p (Some (with_range all from new)); viewed = put o.viewed p true }))
-Knows m o (Mutator _ (Write p from new)) (Refused Closed) q = (o.opened ≡ false) × (q ≡ o)
-Knows m o (Mutator _ (Write p from new)) (Refused NotHeld) q = (o.opened ≡ true) × (o.object p ≡ None) × (q ≡ o)
-Knows m o (Mutator _ (Write p from new)) (Refused Range) q = (o.opened ≡ true) × (q ≡ o) × ((all : List ℕ) × (o.object p ≡ Some all) × IsOut all from (length new))
+Knows m o (Mutator _ (On p how)) r q = KnowsUse o p r how q
 Knows m o (Mutator _ (Where p)) (Lies home) q = (q ≡ o) × (o.viewed p ≡ true → IsNear home) × ((all : List ℕ) × (o.object p ≡ Some all))
 Knows m o (Mutator _ (Where p)) (Refused NotHeld) q = (o.object p ≡ None) × (q ≡ o)
 Knows m o (Mutator _ (Drop p)) Done q = (o.viewed p ≡ false) × (q ≡ record o { object = put o.object p None }) × ((all : List ℕ) × (o.object p ≡ Some all))
 Knows m o (Mutator _ (Drop p)) (Refused NotHeld) q = (o.object p ≡ None) × (q ≡ o)
 Knows m o (Mutator _ (Drop p)) (Refused Held) q = (o.viewed p ≡ true) × (q ≡ o) × ((all : List ℕ) × (o.object p ≡ Some all))
-Knows m o (Mutator _ (View p)) Done q = (o.opened ≡ true) × (q ≡ record o { viewed = put o.viewed p true }) × ((all : List ℕ) × (o.object p ≡ Some all))
-Knows m o (Mutator _ (View p)) (Refused Closed) q = (o.opened ≡ false) × (q ≡ o)
-Knows m o (Mutator _ (View p)) (Refused NotHeld) q = (o.opened ≡ true) × (o.object p ≡ None) × (q ≡ o)
-Knows m o (Mutator _ (View p)) (Refused NoRoom) q = (o.opened ≡ true) × (o.viewed p ≡ false) × (q ≡ o) × ((all : List ℕ) × (o.object p ≡ Some all))
-Knows m o (Mutator _ (View p)) (Refused Device) q = (o.opened ≡ true) × (o.viewed p ≡ false) × (q ≡ o) × ((all : List ℕ) × (o.object p ≡ Some all))
-Knows m o (Mutator _ (View p)) (Refused Damaged) q = (o.opened ≡ true) × (o.viewed p ≡ false) × (q ≡ o) × ((all : List ℕ) × (o.object p ≡ Some all))
 Knows m o (Mutator _ (Try p)) Done q = (o.opened ≡ true) × (q ≡ record o { viewed = put o.viewed p true }) × ((all : List ℕ) × (o.object p ≡ Some all))
 Knows m o (Mutator _ (Try p)) (Refused Closed) q = (o.opened ≡ false) × (q ≡ o)
 Knows m o (Mutator _ (Try p)) (Refused NotHeld) q = (o.opened ≡ true) × (o.object p ≡ None) × (q ≡ o)

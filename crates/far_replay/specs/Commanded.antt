@@ -15,7 +15,7 @@ use Rattle.far_evac.specs.Live.{live_among}
 use Rattle.far_evac.specs.Moment.{plus, progress_of, tally_of}
 use Rattle.far_evac.specs.Turns.{turn_size, turns_made}
 use Rattle.far_evac.specs.Walk.{Goes, way_of}
-use Rattle.far_text.specs.Command.{Command, Write, Read, View, Try, Mutator, Evacuator, Evacuate, Policy, Round}
+use Rattle.far_text.specs.Command.{Command, On, Try, Mutator, Evacuator, Evacuate, Policy, Round}
 use Rattle.far_replay.specs.Moment.{Moment, as_if_stored}
 use Rattle.far_reply.specs.Reply.{Reply, Ended, Evacuated, Halted, Refused}
 use Rattle.far_replay.specs.Rounds.{chosen_by, rows_in}
@@ -92,9 +92,7 @@ pub record StopsRound (why : Refusal) (turns objects : ℕ) (now : Moment) (poli
 
 -- a command is refused so. No other command asks the outside for anything
 abbrev pub Stopped : Refusal → ℕ → ℕ → Moment → Command → Reply → Moment → Type 0
-Stopped why turns objects now (Mutator m (Write p from bytes)) r after = Unbrought why now (Mutator m (Write p from bytes)) m p r after
-Stopped why turns objects now (Mutator m (Read p from len)) r after = Unbrought why now (Mutator m (Read p from len)) m p r after
-Stopped why turns objects now (Mutator m (View p)) r after = Unbrought why now (Mutator m (View p)) m p r after
+Stopped why turns objects now (Mutator m (On p how)) r after = Unbrought why now (Mutator m (On p how)) m p r after
 Stopped why turns objects now (Evacuator (Evacuate count)) r after = StopsLeaving why objects now count r after
 Stopped why turns objects now (Evacuator (Round policy most count)) r after = StopsRound why turns objects now policy most count r after
 Stopped why turns objects now c r after = ⊥
@@ -117,16 +115,12 @@ pub record Misled (row : ℕ → ℕ) (now : Moment) (c : Command) (p : ℕ) (r 
 
 -- a command of mutator m writes, reads or views the object of pointer p, whether m views that object already or not
 abbrev pub AsksFor : ℕ → ℕ → Command → Type 0
-AsksFor m p (Mutator k (Write q from bytes)) = (k ≡ m) × (q ≡ p)
-AsksFor m p (Mutator k (Read q from len)) = (k ≡ m) × (q ≡ p)
-AsksFor m p (Mutator k (View q)) = (k ≡ m) × (q ≡ p)
+AsksFor m p (Mutator k (On q how)) = (k ≡ m) × (q ≡ p)
 AsksFor m p c = ⊥
 
 -- no other command does
 abbrev pub MisledBy : (ℕ → ℕ) → Moment → Command → Reply → Moment → Type 0
-MisledBy row now (Mutator m (Write p from bytes)) r after = Misled row now (Mutator m (Write p from bytes)) p r after
-MisledBy row now (Mutator m (Read p from len)) r after = Misled row now (Mutator m (Read p from len)) p r after
-MisledBy row now (Mutator m (View p)) r after = Misled row now (Mutator m (View p)) p r after
+MisledBy row now (Mutator m (On p how)) r after = Misled row now (Mutator m (On p how)) p r after
 MisledBy row now c r after = ⊥
 
 -- ---- any of these

@@ -7,7 +7,7 @@ use Rattle.far_word.specs.declared.refused.Refused.{Refused as Refusal}
 use Rattle.far_word.specs.declared.refused.Refused.TheVariants.{NoRoom, Device, Damaged, Marked, StillOpen}
 use Rattle.far_word.specs.Pointer.{read_of}
 use Rattle.far_core.specs.world.WorldOf.{world_of}
-use Rattle.far_text.specs.Command.{Command, Write, Read, View, Try, Wait, Mutator, Evacuator}
+use Rattle.far_text.specs.Command.{Command, On, Try, Wait, Mutator, Evacuator}
 use Rattle.far_replay.specs.Moment.{Moment}
 
 -- HOT and MOVE may have been added; EVAC, DROP and DIRTY are as they were
@@ -28,15 +28,9 @@ CellStays _ _ = ⊥
 
 -- the cell whose marks a refused line may add to: that of the object it reads, writes or views, and only where the refusal came after the pin
 abbrev pub MayMark : Command → Refusal → ℕ → Type 0
-MayMark (Mutator m (Write p from bytes)) NoRoom q = q ≡ p
-MayMark (Mutator m (Write p from bytes)) Device q = q ≡ p
-MayMark (Mutator m (Write p from bytes)) Damaged q = q ≡ p
-MayMark (Mutator m (Read p from len)) NoRoom q = q ≡ p
-MayMark (Mutator m (Read p from len)) Device q = q ≡ p
-MayMark (Mutator m (Read p from len)) Damaged q = q ≡ p
-MayMark (Mutator m (View p)) NoRoom q = q ≡ p
-MayMark (Mutator m (View p)) Device q = q ≡ p
-MayMark (Mutator m (View p)) Damaged q = q ≡ p
+MayMark (Mutator m (On p how)) NoRoom q = q ≡ p
+MayMark (Mutator m (On p how)) Device q = q ≡ p
+MayMark (Mutator m (On p how)) Damaged q = q ≡ p
 MayMark (Mutator m (Try p)) (Marked word) q = q ≡ p
 MayMark c why q = ⊥
 

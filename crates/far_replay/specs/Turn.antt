@@ -15,7 +15,7 @@ use Rattle.far_book.specs.book.Home.{home_of}
 use Rattle.far_book.specs.declared.home.Home.{Home}
 use Rattle.far_evac.specs.Census.{kind_in}
 use Rattle.far_replay.specs.Audit.{counts_of}
-use Rattle.far_text.specs.Command.{Command, New, Open, Write, Read, Close, Where, Drop, View, Try, Epoch, Logs, Log, Audit, Mutator, Book, Evacuator}
+use Rattle.far_text.specs.Command.{Command, New, Open, On, Use, Reads, Writes, Views, Close, Where, Drop, Try, Epoch, Logs, Log, Audit, Mutator, Book, Evacuator}
 use Rattle.far_alone.specs.Dereference.{dereferenced, has_no_room, sought}
 use Rattle.far_alone.specs.Effects.{with_object, with_epoch, with_scope, with_view, is_slow, with_data, without_object}
 use Rattle.far_replay.specs.Moment.{Moment, with_core}
@@ -35,12 +35,12 @@ causes now (Mutator m (New len ds)) =
     (not (nat_lt m now.core.mutators && nat_lt ds 256), Range) ∷ (not (nat_lt 0 len && nat_le len LONGEST), Length)
     ∷ (not (is_some (lowest_cell now.core m)), NoPointer) ∷ (not (is_some (room now.core (size_of len) true)), NoRoom) ∷ []
 causes now (Mutator m Open) = (not (nat_lt m now.core.mutators), Range) ∷ (is_opened now.core m, AlreadyOpen) ∷ []
-causes now (Mutator m (Write p from bytes)) = access_causes now m p from (length bytes) ++ (has_no_room now.core m p, NoRoom) ∷ []
-causes now (Mutator m (Read p from len)) = access_causes now m p from len ++ (has_no_room now.core m p, NoRoom) ∷ []
+causes now (Mutator m (On p (Writes from bytes))) = access_causes now m p from (length bytes) ++ (has_no_room now.core m p, NoRoom) ∷ []
+causes now (Mutator m (On p (Reads from len))) = access_causes now m p from len ++ (has_no_room now.core m p, NoRoom) ∷ []
 causes now (Mutator m Close) = (not (nat_lt m now.core.mutators), Range) ∷ (not (is_opened now.core m), Closed) ∷ []
 causes now (Mutator m (Where p)) = (not (nat_lt m now.core.mutators), Range) ∷ (not (uses now.core m p), NotHeld) ∷ []
 causes now (Mutator m (Drop p)) = (not (nat_lt m now.core.mutators), Range) ∷ (not (uses now.core m p), NotHeld) ∷ (is_some (now.core.held p), Held) ∷ []
-causes now (Mutator m (View p)) =
+causes now (Mutator m (On p Views)) =
     (not (nat_lt m now.core.mutators), Range) ∷ (not (is_opened now.core m), Closed) ∷ (not (uses now.core m p), NotHeld) ∷ (has_no_room now.core m p, NoRoom) ∷ []
 causes now (Mutator m (Try p)) =
     (not (nat_lt m now.core.mutators), Range) ∷ (not (is_opened now.core m), Closed) ∷ (not (uses now.core m p), NotHeld) ∷ (is_slow now.core p, Marked (now.core.cell p)) ∷ []
@@ -65,15 +65,18 @@ with_new s m len ds None place = s
 with_new s m len ds (Some p) None = s
 with_new s m len ds (Some p) (Some place) = with_object s m p len ds place
 
+-- an object that is at hand, once it is used: a write leaves its bytes there
+abbrev pub after_use : State → ℕ → Use → State
+after_use s p (Writes from bytes) = with_data s p from bytes
+after_use s p how = s
+
 abbrev pub turn_effect : Moment → Command → Moment
 turn_effect now (Mutator m (New len ds)) = with_core now (with_new now.core m len ds (lowest_cell now.core m) (room now.core (size_of len) true))
 turn_effect now (Mutator m Open) = with_core now (with_scope now.core m)
-turn_effect now (Mutator m (Write p from bytes)) = with_core now (with_data (dereferenced now.core m p) p from bytes)
-turn_effect now (Mutator m (Read p from len)) = with_core now (dereferenced now.core m p)
+turn_effect now (Mutator m (On p how)) = with_core now (after_use (dereferenced now.core m p) p how)
 turn_effect now (Mutator m Close) = with_core now (after_close now.core m)
 turn_effect now (Mutator m (Where p)) = now
 turn_effect now (Mutator m (Drop p)) = with_core now (without_object now.core m p)
-turn_effect now (Mutator m (View p)) = with_core now (dereferenced now.core m p)
 turn_effect now (Mutator m (Try p)) = with_core now (with_view now.core p)
 turn_effect now (Mutator m Epoch) = with_core now (with_epoch now.core m)
 turn_effect now (Book inquiry) = now
@@ -81,9 +84,7 @@ turn_effect now (Evacuator step) = step_effect now step
 
 -- ---- the moment after a command that is refused: as before, but for the marks that it left, and whom a wait saw clear
 abbrev pub refused_effect : Moment → Command → Refusal → Moment
-refused_effect now (Mutator m (Write p from bytes)) NoRoom = with_core now (sought now.core m p)
-refused_effect now (Mutator m (Read p from len)) NoRoom = with_core now (sought now.core m p)
-refused_effect now (Mutator m (View p)) NoRoom = with_core now (sought now.core m p)
+refused_effect now (Mutator m (On p how)) NoRoom = with_core now (sought now.core m p)
 refused_effect now (Mutator m (Try p)) (Marked word) = with_core now (with_view now.core p)
 refused_effect now (Evacuator step) why = refused_step now step why
 refused_effect now c why = now
@@ -105,12 +106,11 @@ home_reply (Some home) = Lies home
 abbrev pub turn_reply : Moment → Command → Reply
 turn_reply now (Mutator m (New len ds)) = pointer_reply (lowest_cell now.core m)
 turn_reply now (Mutator m Open) = Done
-turn_reply now (Mutator m (Write p from bytes)) = Done
-turn_reply now (Mutator m (Read p from len)) = Data (slice_range (data_of (dereferenced now.core m p) p) from (from + len))
+turn_reply now (Mutator m (On p (Reads from len))) = Data (slice_range (data_of (dereferenced now.core m p) p) from (from + len))
+turn_reply now (Mutator m (On p how)) = Done
 turn_reply now (Mutator m Close) = Done
 turn_reply now (Mutator m (Where p)) = home_reply (home_of (read_of (now.core.cell p)))
 turn_reply now (Mutator m (Drop p)) = Done
-turn_reply now (Mutator m (View p)) = Done
 turn_reply now (Mutator m (Try p)) = Done
 turn_reply now (Mutator m Epoch) = EpochRead now.core.epoch
 turn_reply now (Book Logs) = Told (map (log_line now) (range_with_len 0 now.core.logs))

@@ -13,7 +13,7 @@ ghost use Rattle.far_replay.specs.Interpreter.{refused_in, IsAccess, IsViewed, S
 ghost use Rattle.hex.specs.Hex.{IsBytes};
 ghost use Rattle.far_text.specs.Written.{WritesBytes};
 ghost use Rattle.far_core.specs.events.Ranges.{after_events};
-ghost use Rattle.far_text.specs.Command.{Mutator, Book, New, Open, Write, Read, Close, Where, Drop, View, Try, Logs, Log, Audit};
+ghost use Rattle.far_text.specs.Command.{Mutator, Book, New, Open, On, Reads, Writes, Close, Where, Drop, Try, Logs, Log, Audit};
 ghost use Rattle.far_reply.specs.Reply.{Data};
 ghost use Rattle.far_replay.specs.Spent.{Makes};
 ghost use Rattle.far_replay.specs.Outcome.{reply_by, IsInScratch};
@@ -109,7 +109,7 @@ fn read_viewed(evac: &Evac<Plain, FarSide>, scratch: &mut Scratch, access: Acces
 // Reads a range of bytes.
 fn read(evac: &mut Evac<Plain, FarSide>, scratch: &mut Scratch, access: Access) -> Outcome
     requires access { IsAccess (state_in evac.old) access.owner access.pointer access.from access.count access }
-    ensures made { Makes evac.old (Mutator access.owner (Read access.pointer access.from access.count)) (reply_by scratch.new result) evac.new }
+    ensures made { Makes evac.old (Mutator access.owner (On access.pointer (Reads access.from access.count))) (reply_by scratch.new result) evac.new }
     ensures fits { IsInScratch result }
 {
     match dereference(evac, access.owner, access.pointer) {
@@ -156,7 +156,7 @@ fn write(
     requires access { IsAccess (state_in evac.old) access.owner access.pointer access.from access.count access }
     requires bytes { length bytes.now ≡ access.count }
     requires small { IsBytes bytes.now }
-    ensures made { Makes evac.old (Mutator access.owner (Write access.pointer access.from bytes.now)) (reply_by scratch.new result) evac.new }
+    ensures made { Makes evac.old (Mutator access.owner (On access.pointer (Writes access.from bytes.now))) (reply_by scratch.new result) evac.new }
     ensures fits { IsInScratch result }
 {
     match dereference(evac, access.owner, access.pointer) {
@@ -260,7 +260,7 @@ fn read_range(
 ) -> Outcome
     requires known { owner < (state_in evac.old).mutators }
     requires law { Law (state_in evac.old) }
-    ensures made { Makes evac.old (Mutator owner (Read pointer from len)) (reply_by scratch.new result) evac.new }
+    ensures made { Makes evac.old (Mutator owner (On pointer (Reads from len))) (reply_by scratch.new result) evac.new }
     ensures fits { IsInScratch result }
 {
     match reach(evac, owner, pointer, from, len) {
@@ -281,7 +281,7 @@ fn write_range(
     requires known { owner < (state_in evac.old).mutators }
     requires law { Law (state_in evac.old) }
     requires small { IsBytes bytes.now }
-    ensures made { Makes evac.old (Mutator owner (Write pointer from bytes.now)) (reply_by scratch.new result) evac.new }
+    ensures made { Makes evac.old (Mutator owner (On pointer (Writes from bytes.now))) (reply_by scratch.new result) evac.new }
     ensures fits { IsInScratch result }
 {
     match reach(evac, owner, pointer, from, bytes.len() as u64) {

@@ -3,7 +3,7 @@
 ghost use Rattle.std.specs.Prelude.{◌≡◌, ◌<◌};
 ghost use Rattle.far_replay.specs.Spent.{Makes};
 ghost use Rattle.far_replay.specs.declared.outcome.Scratch.{Scratch};
-ghost use Rattle.far_text.specs.Command.{Mutator, Try, View};
+ghost use Rattle.far_text.specs.Command.{Mutator, Try, On, Views};
 ghost use Rattle.far_replay.specs.Interpreter.{StandsFor};
 ghost use Rattle.far_replay.specs.Moment.{moment_in, state_in};
 ghost use Rattle.far_replay.specs.Outcome.{reply_by, IsInScratch};
@@ -39,7 +39,7 @@ pub fn try_object(evac: &mut Evac<Plain, FarSide>, owner: u8, pointer: u64) -> O
 /// Views an owner's object, whatever marks it has.
 pub fn view_object(evac: &mut Evac<Plain, FarSide>, owner: u8, pointer: u64) -> Outcome
     requires known { owner < (state_in evac.old).mutators }
-    ensures made { (scratch : Scratch) → Makes evac.old (Mutator owner (View pointer)) (reply_by scratch result) evac.new }
+    ensures made { (scratch : Scratch) → Makes evac.old (Mutator owner (On pointer Views)) (reply_by scratch result) evac.new }
     ensures fits { IsInScratch result }
 {
     if !core_of(evac).is_open(owner) {

@@ -216,9 +216,7 @@ misled_keeps row now r next m p is = as_misled row now r next m p (λ now c r ne
 pub ages_stay : (now : Moment) (c : Command) (r : Reply) (next : Moment) → IsMoment now → Commanded now c r next → KeepsAges now c next
 ages_stay now c r next is h = by_outcome now r next (λ d. KeepsAges now d next)
     (λ d h. served_keeps now d r next is h)
-    (λ why m p from bytes h. let x = served_keeps now (Mutator m (Try p)) (Refused (Marked (now.core.cell p))) next is h.tried in record { gone = x.gone; since = x.since; order = x.order; given = x.given })
-    (λ why m p from len h. let x = served_keeps now (Mutator m (Try p)) (Refused (Marked (now.core.cell p))) next is h.tried in record { gone = x.gone; since = x.since; order = x.order; given = x.given })
-    (λ why m p h. let x = served_keeps now (Mutator m (Try p)) (Refused (Marked (now.core.cell p))) next is h.tried in record { gone = x.gone; since = x.since; order = x.order; given = x.given })
+    (λ why m p how h. let x = served_keeps now (Mutator m (Try p)) (Refused (Marked (now.core.cell p))) next is h.tried in record { gone = x.gone; since = x.since; order = x.order; given = x.given })
     (λ why objects count h. let x = served_keeps now (Evacuator (Evacuate objects)) (Evacuated h.progress) next is h.left in record { gone = x.gone; since = x.since; order = x.order; given = x.given })
     (λ why turns objects policy most count h.
     stop_keeps now (moment_lasts now is) policy most turns count objects h.stood next h.progress (stood_so now policy most turns h.stood h.turned) (left_some h.stood objects h.progress next h.left h.unfinished))

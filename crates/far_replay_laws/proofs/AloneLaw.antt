@@ -10,7 +10,7 @@ use Rattle.far_core.specs.events.Step.{step_of}
 use Rattle.far_core.specs.world.WorldOf.{world_of}
 use Rattle.far_core.proofs.Leaving.{events_leave}
 use Rattle.far_replay.specs.Moment.{Moment, moment_of, as_if_stored}
-use Rattle.far_replay.specs.Alone.{IsIn, Knows, Alone, Learns, is_by, speaker, KnowsBy}
+use Rattle.far_replay.specs.Alone.{FitsIn, IsIn, Knows, Alone, Learns, is_by, speaker, KnowsBy}
 use Rattle.far_alone.specs.Own.{Own, own_of}
 use Rattle.far_replay.specs.Answers.{Answered, Commanded, Served, Stopped, Unbrought, IsMoment, CommandedBy, Outside, Serves, Refuses, Gives, Lacks}
 use Rattle.far_replay.specs.Commanded.{KeepsFar, AsksFor, Misled}
@@ -20,9 +20,9 @@ use Rattle.far_evac.specs.declared.phase.Phase.TheVariants.{Evacuating}
 use Rattle.far_word.specs.declared.refused.Refused.TheVariants.{Marked, Memory}
 use Rattle.far_alone.proofs.AloneStates.{own_used}
 use Rattle.far_replay.proofs.Outcomes.{by_outcome, by_lie, by_stop}
-use Rattle.far_replay.proofs.Turns.{access_fact}
+use Rattle.far_replay.proofs.Turns.{access_fact, may_reach}
 use Rattle.far_alone.specs.Between.{Between}
-use Rattle.far_text.specs.Command.{Command, New, Open, Write, Read, Close, Where, Drop, View, Try, Epoch, Mutator, Book, Evacuator, Evacuate, Round}
+use Rattle.far_text.specs.Command.{Command, New, Open, On, Use, Reads, Writes, Views, Close, Where, Drop, Try, Epoch, Mutator, Book, Evacuator, Evacuate, Round}
 use Rattle.far_text.specs.Written.{WritesBytes, AllWriteBytes}
 use Rattle.far_core.specs.events.Ranges.{after_events}
 use Rattle.far_alone.specs.EventRows.{AllSucceed}
@@ -32,7 +32,7 @@ use Rattle.far_replay.specs.Turn.{effect, refusal, reply_to, unless}
 use Rattle.far_replay.proofs.Lasting.{Lasts, IsCarriedOut, after_step, command_carried, moment_lasts, served_honest, still_lasts, misled_before, misled_lasts}
 use Rattle.far_replay_laws.proofs.AloneNew.{turns_new}
 use Rattle.far_replay.proofs.RoundLeads.{owned_same, step_keeps}
-use Rattle.far_replay_laws.proofs.AloneTurns.{Teaches, Turns, turns_open, turns_epoch, turns_close, turns_read, turns_write, turns_where, turns_drop, turns_try, turns_view}
+use Rattle.far_replay_laws.proofs.AloneTurns.{Teaches, Turns, turns_open, turns_epoch, turns_close, turns_use, turns_where, turns_drop, turns_try}
 use Rattle.far_replay_laws.proofs.Refusals.{of_far}
 use Rattle.far_replay_laws.proofs.AloneLies.{misled_tells}
 use Rattle.far_replay_laws.proofs.Misleading.{by_asked, misled_allowed, misled_uses}
@@ -68,14 +68,11 @@ Taught s m c r t = MatchBool (is_by m (speaker c)) (Knows m (own_of (world_of s)
 taught : (now : Moment) (m : ℕ) (c : Command) (r : Reply) (t : State) → IsNoStep c → Law now.core → Between now.core → m < now.core.mutators → WritesBytes c → IsCarriedOut now c r t → Taught now.core m c r t
 taught now m (Mutator k (New len ds)) r t told law between within small h = at_speaker now.core k m (Mutator k (New len ds)) r t (nat_eq k m) refl within (teaches now.core k (Mutator k (New len ds)) r t h.reply h.state h.made (turns_new now.core k len ds law between))
 taught now m (Mutator k Open) r t told law between within small h = at_speaker now.core k m (Mutator k Open) r t (nat_eq k m) refl within (teaches now.core k (Mutator k Open) r t h.reply h.state h.made (turns_open now.core k law))
-taught now m (Mutator k (Write p from bytes)) r t told law between within small h =
-    at_speaker now.core k m (Mutator k (Write p from bytes)) r t (nat_eq k m) refl within (teaches now.core k (Mutator k (Write p from bytes)) r t h.reply h.state h.made (turns_write now.core k p from bytes law between small))
-taught now m (Mutator k (Read p from len)) r t told law between within small h =
-    at_speaker now.core k m (Mutator k (Read p from len)) r t (nat_eq k m) refl within (teaches now.core k (Mutator k (Read p from len)) r t h.reply h.state h.made (turns_read now.core k p from len law between))
+taught now m (Mutator k (On p how)) r t told law between within small h =
+    at_speaker now.core k m (Mutator k (On p how)) r t (nat_eq k m) refl within (teaches now.core k (Mutator k (On p how)) r t h.reply h.state h.made (turns_use now.core k p how law between small))
 taught now m (Mutator k Close) r t told law between within small h = at_speaker now.core k m (Mutator k Close) r t (nat_eq k m) refl within (teaches now.core k (Mutator k Close) r t h.reply h.state h.made (turns_close now.core k law))
 taught now m (Mutator k (Where p)) r t told law between within small h = at_speaker now.core k m (Mutator k (Where p)) r t (nat_eq k m) refl within (teaches now.core k (Mutator k (Where p)) r t h.reply h.state h.made (turns_where now.core k p law between))
 taught now m (Mutator k (Drop p)) r t told law between within small h = at_speaker now.core k m (Mutator k (Drop p)) r t (nat_eq k m) refl within (teaches now.core k (Mutator k (Drop p)) r t h.reply h.state h.made (turns_drop now.core k p law between))
-taught now m (Mutator k (View p)) r t told law between within small h = at_speaker now.core k m (Mutator k (View p)) r t (nat_eq k m) refl within (teaches now.core k (Mutator k (View p)) r t h.reply h.state h.made (turns_view now.core k p law between))
 taught now m (Mutator k (Try p)) r t told law between within small h = at_speaker now.core k m (Mutator k (Try p)) r t (nat_eq k m) refl within (teaches now.core k (Mutator k (Try p)) r t h.reply h.state h.made (turns_try now.core k p law between))
 taught now m (Mutator k Epoch) r t told law between within small h = at_speaker now.core k m (Mutator k Epoch) r t (nat_eq k m) refl within (teaches now.core k (Mutator k Epoch) r t h.reply h.state h.made (turns_epoch now.core k law))
 taught now m (Book inquiry) r t told law between within small h = ap (λ x. own_of (world_of x) m) (h.state ∙ none_made now.core (refusal now (Book inquiry)))
@@ -84,12 +81,8 @@ taught now m (Evacuator step) r t told law between within small h = absurd told
 -- one that asks for its object teaches its own mutator alone
 pub asked_teaches : (now : Moment) (m p : ℕ) (r : Reply) (next : Moment) → Lasts now → (c : Command) → AsksFor m p c → WritesBytes c → Served now c r next → Teaches now.core m c r next.core
 asked_teaches now m p r next lasts = by_asked m p (λ d. WritesBytes d → Served now d r next → Teaches now.core m d r next.core)
-    (λ from new small h. let x = command_carried now (Mutator m (Write p from new)) r next tt lasts small h in
-    teaches now.core m (Mutator m (Write p from new)) r next.core x.reply x.state x.made (turns_write now.core m p from new lasts.law lasts.between small))
-    (λ from len small h. let x = command_carried now (Mutator m (Read p from len)) r next tt lasts small h in
-    teaches now.core m (Mutator m (Read p from len)) r next.core x.reply x.state x.made (turns_read now.core m p from len lasts.law lasts.between))
-    (λ small h. let x = command_carried now (Mutator m (View p)) r next tt lasts small h in
-    teaches now.core m (Mutator m (View p)) r next.core x.reply x.state x.made (turns_view now.core m p lasts.law lasts.between))
+    (λ how small h. let x = command_carried now (Mutator m (On p how)) r next tt lasts small h in
+    teaches now.core m (Mutator m (On p how)) r next.core x.reply x.state x.made (turns_use now.core m p how lasts.law lasts.between small))
 
 -- a command leaves as many mutators
 served_mutators : (now : Moment) (c : Command) (r : Reply) (next : Moment) → Lasts now → WritesBytes c → Served now c r next → next.core.mutators ≡ now.core.mutators
@@ -118,14 +111,8 @@ known : (s : State) (m : ℕ) (c : Command) (r : Reply) (t : State) → Taught s
 known s m c r t h = known_by (is_by m (speaker c)) s.honest m (own_of (world_of s) m) (own_of (world_of t) m) c r (own_of (world_of t) m ≡ own_of (world_of s) m) h
 
 -- one that the device refuses tells what a try would, and that nothing else refuses it
-known_write : (k : ℕ) (o q : Own) (p from : ℕ) (new all : List ℕ) (why : Refusal) → KeepsFar why → o.opened ≡ true → o.viewed p ≡ false → q ≡ o → o.object p ≡ Some all → IsIn all from (length new) → Knows k o (Mutator k (Write p from new)) (Refused why) q
-known_write k o q p from new all why h opened free same is inside = of_far (λ x. Knows k o (Mutator k (Write p from new)) (Refused x) q) why h (opened, free, same, (all, is, inside)) (opened, free, same, (all, is, inside))
-
-known_read : (k : ℕ) (o q : Own) (p from len : ℕ) (all : List ℕ) (why : Refusal) → KeepsFar why → o.opened ≡ true → o.viewed p ≡ false → q ≡ o → o.object p ≡ Some all → IsIn all from len → Knows k o (Mutator k (Read p from len)) (Refused why) q
-known_read k o q p from len all why h opened free same is inside = of_far (λ x. Knows k o (Mutator k (Read p from len)) (Refused x) q) why h (opened, free, same, (all, is, inside)) (opened, free, same, (all, is, inside))
-
-known_view : (k : ℕ) (o q : Own) (p : ℕ) (all : List ℕ) (why : Refusal) → KeepsFar why → o.opened ≡ true → o.viewed p ≡ false → q ≡ o → o.object p ≡ Some all → Knows k o (Mutator k (View p)) (Refused why) q
-known_view k o q p all why h opened free same is = of_far (λ x. Knows k o (Mutator k (View p)) (Refused x) q) why h (opened, free, same, (all, is)) (opened, free, same, (all, is))
+known_use : (k : ℕ) (o q : Own) (p : ℕ) (how : Use) (all : List ℕ) (why : Refusal) → KeepsFar why → o.opened ≡ true → o.viewed p ≡ false → q ≡ o → o.object p ≡ Some all → FitsIn all how → Knows k o (Mutator k (On p how)) (Refused why) q
+known_use k o q p how all why h opened free same is fits = of_far (λ x. Knows k o (Mutator k (On p how)) (Refused x) q) why h (opened, free, same, (all, is, fits)) (opened, free, same, (all, is, fits))
 
 try_teaches : (why : Refusal) (now : Moment) (c : Command) (k p : ℕ) (r : Reply) (next : Moment) → Lasts now → Unbrought why now c k p r next → Teaches now.core k (Mutator k (Try p)) (Refused (Marked (now.core.cell p))) next.core
 try_teaches why now c k p r next lasts h =
@@ -135,42 +122,25 @@ try_teaches why now c k p r next lasts h =
 inside_all : (all : List ℕ) (len from count : ℕ) → length all ≡ len → 0 < count → from + count ≤ len → IsIn all from count
 inside_all all len from count long some within = (some, omega (arith, long, within))
 
-write_teaches : (why : Refusal) (now : Moment) (k p from : ℕ) (new : List ℕ) (r : Reply) (next : Moment) → Lasts now → Unbrought why now (Mutator k (Write p from new)) k p r next → Teaches now.core k (Mutator k (Write p from new)) r next.core
-write_teaches why now k p from new r next lasts h =
-    let x = try_teaches why now (Mutator k (Write p from new)) k p r next lasts h in
-    let access = access_fact now.core k p from (length new) h.allowed in
-    let own = own_used now.core lasts.law k p access.ours in
-    subst (λ y. Teaches now.core k (Mutator k (Write p from new)) y next.core) (sym h.reply) (
-      (λ within. let (opened, free, same, has) = x.0 within in
-          known_write k (own_of (world_of now.core) k) (own_of (world_of next.core) k) p from new own.0 why h.cause opened free same own.1 (inside_all own.0 (object_len now.core p) from (length new) own.2 access.some access.within)),
-      x.1,
-    )
+fits_use : (now : Moment) (k p : ℕ) (how : Use) (all : List ℕ) → length all ≡ object_len now.core p → refusal now (Mutator k (On p how)) ≡ None → FitsIn all how
+fits_use now k p (Writes from new) all long e = let access = access_fact now.core k p from (length new) e in inside_all all (object_len now.core p) from (length new) long access.some access.within
+fits_use now k p (Reads from len) all long e = let access = access_fact now.core k p from len e in inside_all all (object_len now.core p) from len long access.some access.within
+fits_use now k p Views all long e = tt
 
-read_teaches : (why : Refusal) (now : Moment) (k p from len : ℕ) (r : Reply) (next : Moment) → Lasts now → Unbrought why now (Mutator k (Read p from len)) k p r next → Teaches now.core k (Mutator k (Read p from len)) r next.core
-read_teaches why now k p from len r next lasts h =
-    let x = try_teaches why now (Mutator k (Read p from len)) k p r next lasts h in
-    let access = access_fact now.core k p from len h.allowed in
-    let own = own_used now.core lasts.law k p access.ours in
-    subst (λ y. Teaches now.core k (Mutator k (Read p from len)) y next.core) (sym h.reply) (
+use_teaches : (why : Refusal) (now : Moment) (k p : ℕ) (how : Use) (r : Reply) (next : Moment) → Lasts now → Unbrought why now (Mutator k (On p how)) k p r next → Teaches now.core k (Mutator k (On p how)) r next.core
+use_teaches why now k p how r next lasts h =
+    let x = try_teaches why now (Mutator k (On p how)) k p r next lasts h in
+    let own = own_used now.core lasts.law k p (may_reach now k p how h.allowed).1 in
+    subst (λ y. Teaches now.core k (Mutator k (On p how)) y next.core) (sym h.reply) (
       (λ within. let (opened, free, same, has) = x.0 within in
-          known_read k (own_of (world_of now.core) k) (own_of (world_of next.core) k) p from len own.0 why h.cause opened free same own.1 (inside_all own.0 (object_len now.core p) from len own.2 access.some access.within)),
-      x.1,
-    )
-
-view_teaches : (why : Refusal) (now : Moment) (k p : ℕ) (r : Reply) (next : Moment) → Lasts now → Unbrought why now (Mutator k (View p)) k p r next → Teaches now.core k (Mutator k (View p)) r next.core
-view_teaches why now k p r next lasts h =
-    let x = try_teaches why now (Mutator k (View p)) k p r next lasts h in
-    subst (λ y. Teaches now.core k (Mutator k (View p)) y next.core) (sym h.reply) (
-      (λ within. let (opened, free, same, has) = x.0 within in known_view k (own_of (world_of now.core) k) (own_of (world_of next.core) k) p has.0 why h.cause opened free same has.1),
+          known_use k (own_of (world_of now.core) k) (own_of (world_of next.core) k) p how own.0 why h.cause opened free same own.1 (fits_use now k p how own.0 own.2 h.allowed)),
       x.1,
     )
 
 pub next_mutators : (now : Moment) (c : Command) (r : Reply) (next : Moment) → Lasts now → WritesBytes c → Commanded now c r next → next.core.mutators ≡ now.core.mutators
 next_mutators now c r next lasts small h = by_outcome now r next (λ d. WritesBytes d → next.core.mutators ≡ now.core.mutators)
     (λ d h small. served_mutators now d r next lasts small h)
-    (λ why m p from new h _. served_mutators now (Mutator m (Try p)) (Refused (Marked (now.core.cell p))) next lasts tt h.tried)
-    (λ why m p from len h _. served_mutators now (Mutator m (Try p)) (Refused (Marked (now.core.cell p))) next lasts tt h.tried)
-    (λ why m p h _. served_mutators now (Mutator m (Try p)) (Refused (Marked (now.core.cell p))) next lasts tt h.tried)
+    (λ why m p how h _. served_mutators now (Mutator m (Try p)) (Refused (Marked (now.core.cell p))) next lasts tt h.tried)
     (λ why objects count h _. served_mutators now (Evacuator (Evacuate objects)) (Evacuated h.progress) next lasts tt h.left)
     (λ why turns objects policy most count h small.
     served_mutators h.stood (Evacuator (Evacuate objects)) (Evacuated h.progress) next (after_step now (Round policy most turns) (Ended (Limit Evacuating)) h.stood lasts h.turned) tt h.left
@@ -181,9 +151,7 @@ next_mutators now c r next lasts small h = by_outcome now r next (λ d. WritesBy
 pub next_honest : (now : Moment) (c : Command) (r : Reply) (next : Moment) → Lasts now → WritesBytes c → Commanded now c r next → next.core.honest ≡ now.core.honest
 next_honest now c r next lasts small h = by_outcome now r next (λ d. WritesBytes d → next.core.honest ≡ now.core.honest)
     (λ d h small. served_honest now d r next lasts small h)
-    (λ why m p from new h _. served_honest now (Mutator m (Try p)) (Refused (Marked (now.core.cell p))) next lasts tt h.tried)
-    (λ why m p from len h _. served_honest now (Mutator m (Try p)) (Refused (Marked (now.core.cell p))) next lasts tt h.tried)
-    (λ why m p h _. served_honest now (Mutator m (Try p)) (Refused (Marked (now.core.cell p))) next lasts tt h.tried)
+    (λ why m p how h _. served_honest now (Mutator m (Try p)) (Refused (Marked (now.core.cell p))) next lasts tt h.tried)
     (λ why objects count h _. served_honest now (Evacuator (Evacuate objects)) (Evacuated h.progress) next lasts tt h.left)
     (λ why turns objects policy most count h small.
     served_honest h.stood (Evacuator (Evacuate objects)) (Evacuated h.progress) next (after_step now (Round policy most turns) (Ended (Limit Evacuating)) h.stood lasts h.turned) tt h.left
@@ -204,9 +172,7 @@ module _ (row : ℕ → ℕ) (now : Moment) (k : ℕ) (r : Reply) (next : Moment
 
   given_learns : (c : Command) → AsksFor m p c → WritesBytes c → Misled row now c p r next → Learns now.core k c r next.core
   given_learns = by_asked m p (λ d. WritesBytes d → Misled row now d p r next → Learns now.core k d r next.core)
-      (λ from new small h. given_tells (Mutator m (Write p from new)) (refl, refl) small h (served_there (Mutator m (Write p from new)) small h))
-      (λ from len small h. given_tells (Mutator m (Read p from len)) (refl, refl) small h (served_there (Mutator m (Read p from len)) small h))
-      (λ small h. given_tells (Mutator m (View p)) (refl, refl) small h (served_there (Mutator m (View p)) small h))
+      (λ how small h. given_tells (Mutator m (On p how)) (refl, refl) small h (served_there (Mutator m (On p how)) small h))
 
 -- what the outside made of a command, unless it gave other words
 abbrev pub GivesNone : Outside → Type 0
@@ -218,9 +184,7 @@ GivesNone (Gives row inverts) = ⊥
 module _ (why : Refusal) (turns objects : ℕ) (now : Moment) (m : ℕ) (r : Reply) (next : Moment) (lasts : Lasts now) (within : m < now.core.mutators) where
   stopped_taught : (c : Command) → WritesBytes c → Stopped why turns objects now c r next → Taught now.core m c r next.core
   stopped_taught c small h = by_stop why turns objects now r next (λ d. WritesBytes d → Taught now.core m d r next.core)
-      (λ k p from new h _. at_speaker now.core k m (Mutator k (Write p from new)) r next.core (nat_eq k m) refl within (write_teaches why now k p from new r next lasts h))
-      (λ k p from len h _. at_speaker now.core k m (Mutator k (Read p from len)) r next.core (nat_eq k m) refl within (read_teaches why now k p from len r next lasts h))
-      (λ k p h _. at_speaker now.core k m (Mutator k (View p)) r next.core (nat_eq k m) refl within (view_teaches why now k p r next lasts h))
+      (λ k p how h _. at_speaker now.core k m (Mutator k (On p how)) r next.core (nat_eq k m) refl within (use_teaches why now k p how r next lasts h))
       (λ count h _. served_taught now m (Evacuator (Evacuate objects)) (Evacuated h.progress) next lasts within tt h.left)
       (λ policy most count h small.
       let later = after_step now (Round policy most turns) (Ended (Limit Evacuating)) h.stood lasts h.turned in

@@ -21,10 +21,11 @@ use Rattle.far_core.specs.world.World.{World, Object}
 use Rattle.far_core.specs.world.WorldOf.{world_of}
 use Rattle.far_core.specs.world.Steps.{with_bytes}
 use Rattle.far_replay.specs.Moment.{moment_of}
+use Rattle.far_text.specs.Written.{WritesBytes}
 use Rattle.far_replay.specs.Alone.{Knows, IsOut, IsIn}
 use Rattle.far_alone.specs.Own.{Own, own_of, bytes_in_world}
 use Rattle.far_alone.specs.Between.{Between}
-use Rattle.far_text.specs.Command.{Command, Open, Write, Read, Close, Where, Drop, View, Try, Epoch, Mutator}
+use Rattle.far_text.specs.Command.{Command, Open, On, Use, Reads, Writes, Views, Close, Where, Drop, Try, Epoch, Mutator}
 use Rattle.far_core.specs.events.Ranges.{after_events}
 use Rattle.far_alone.specs.EventRows.{AllSucceed}
 use Rattle.far_reply.specs.Reply.{Reply, Done, Refused}
@@ -176,9 +177,9 @@ module _ (s : State) (k p : ℕ) (used : uses s k p ≡ true) (led : Derefs s k 
   knows_long = length-data there p ∙ led.long
 
 -- ---- reads
-pub turns_read : (s : State) (k p from len : ℕ) → Law s → Between s → Turns s k (Mutator k (Read p from len)) (refusal (moment_of s) (Mutator k (Read p from len)))
+turns_read : (s : State) (k p from len : ℕ) → Law s → Between s → Turns s k (Mutator k (On p (Reads from len))) (refusal (moment_of s) (Mutator k (On p (Reads from len))))
 turns_read s k p from len law between =
-    five_causes (Turns s k (Mutator k (Read p from len))) (not (nat_lt k s.mutators)) (not (is_opened s k)) (not (uses s k p)) (not (is_range (object_len s p) from len)) (has_no_room s k p) Range Closed NotHeld Range NoRoom
+    five_causes (Turns s k (Mutator k (On p (Reads from len)))) (not (nat_lt k s.mutators)) (not (is_opened s k)) (not (uses s k p)) (not (is_range (object_len s p) from len)) (has_no_room s k p) Range Closed NotHeld Range NoRoom
     (λ off _. (λ within. absurd (not_outside k s.mutators within off), λ m ne. refl))
     (λ _ shut _. (λ within. (shut_world s k within (not-true (is_opened s k) shut), refl), λ m ne. refl))
     (λ _ opened unused _. (λ within. (open_world s k (not-false (is_opened s k) opened), own_unused s between.named k p (not-true (uses s k p) unused), refl), λ m ne. refl))
@@ -197,7 +198,7 @@ turns_read s k p from len law between =
     let range = range_in (object_len s p) from len inside in
     let access : Access s k p from len = record { opened = open_now; ours = ours; some = range.0; within = range.1; room = room } in
     let d = derefs s k p law open_now ours room in
-    subst (λ (t : State). Teaches s k (Mutator k (Read p from len)) (turn_reply (moment_of s) (Mutator k (Read p from len))) t) (sym (read_leads s k p from len law access).ends) (
+    subst (λ (t : State). Teaches s k (Mutator k (On p (Reads from len))) (turn_reply (moment_of s) (Mutator k (On p (Reads from len)))) t) (sym (read_leads s k p from len law access).ends) (
       λ within. (
         open_world s k open_now,
         knows_view s k p ours d,
@@ -207,8 +208,8 @@ turns_read s k p from len law between =
     ))
 
 -- ---- views
-pub turns_view : (s : State) (k p : ℕ) → Law s → Between s → Turns s k (Mutator k (View p)) (refusal (moment_of s) (Mutator k (View p)))
-turns_view s k p law between = four_causes (Turns s k (Mutator k (View p))) (not (nat_lt k s.mutators)) (not (is_opened s k)) (not (uses s k p)) (has_no_room s k p) Range Closed NotHeld NoRoom
+turns_view : (s : State) (k p : ℕ) → Law s → Between s → Turns s k (Mutator k (On p Views)) (refusal (moment_of s) (Mutator k (On p Views)))
+turns_view s k p law between = four_causes (Turns s k (Mutator k (On p Views))) (not (nat_lt k s.mutators)) (not (is_opened s k)) (not (uses s k p)) (has_no_room s k p) Range Closed NotHeld NoRoom
     (λ off _. (λ within. absurd (not_outside k s.mutators within off), λ m ne. refl))
     (λ _ shut _. (λ within. (shut_world s k within (not-true (is_opened s k) shut), refl), λ m ne. refl))
     (λ _ opened unused _. (λ within. (open_world s k (not-false (is_opened s k) opened), own_unused s between.named k p (not-true (uses s k p) unused), refl), λ m ne. refl))
@@ -216,14 +217,14 @@ turns_view s k p law between = four_causes (Turns s k (Mutator k (View p))) (not
     let ours = not-false (uses s k p) used in
     let open_now = not-false (is_opened s k) opened in
     let x = own_used s law k p ours in (
-      λ within. (open_world s k open_now, none_viewed s k p law open_now ours full, none_learns s k p law open_now ours full k, (x.0, x.1)),
+      λ within. (open_world s k open_now, none_viewed s k p law open_now ours full, none_learns s k p law open_now ours full k, (x.0, x.1, tt)),
       λ m ne. none_learns s k p law open_now ours full m,
     ))
     (λ _ opened used room _.
     let ours = not-false (uses s k p) used in
     let open_now = not-false (is_opened s k) opened in
     let d = derefs s k p law open_now ours room in
-    subst (λ (t : State). Teaches s k (Mutator k (View p)) Done t) (sym d.leads.ends) (
+    subst (λ (t : State). Teaches s k (Mutator k (On p Views)) Done t) (sym d.leads.ends) (
       λ within. (open_world s k open_now, knows_view s k p ours d, (data_of (dereferenced s k p) p, knows_bytes s k p ours d)),
       λ m ne. others_know s k p ours d m ne,
     ))
@@ -355,7 +356,7 @@ module _ (s : State) (k p from : ℕ) (bytes : List ℕ) (law : Law s) (small : 
         ap (λ b. over_all b (first_word from) (words_touched from (length bytes)) new) x.2 ∙ over_with_range (data_of here p) from bytes fits (data_small here p) small access.some,
       )
 
-  wrote : IsIn (data_of here p) from (length bytes) → Teaches s k (Mutator k (Write p from bytes)) Done then
+  wrote : IsIn (data_of here p) from (length bytes) → Teaches s k (Mutator k (On p (Writes from bytes))) Done then
   wrote inside =
       let own : p / CELLS ≡ k = uses_owner s k p access.ours in
       let seen : ℕ → Bool = put (views_of (world_of s) k) p true in
@@ -376,9 +377,9 @@ module _ (s : State) (k p from : ℕ) (bytes : List ℕ) (law : Law s) (small : 
         λ m ne. own_other (world_of here) (world_of then) m p run.0 run.1 run.2 (λ e. ne (sym own ∙ e)) (views_still here then m refl) ∙ others_know s k p access.ours led_there m ne,
       )
 
-pub turns_write : (s : State) (k p from : ℕ) (bytes : List ℕ) → Law s → Between s → AreBytes bytes → Turns s k (Mutator k (Write p from bytes)) (refusal (moment_of s) (Mutator k (Write p from bytes)))
+turns_write : (s : State) (k p from : ℕ) (bytes : List ℕ) → Law s → Between s → AreBytes bytes → Turns s k (Mutator k (On p (Writes from bytes))) (refusal (moment_of s) (Mutator k (On p (Writes from bytes))))
 turns_write s k p from bytes law between small =
-    five_causes (Turns s k (Mutator k (Write p from bytes))) (not (nat_lt k s.mutators)) (not (is_opened s k)) (not (uses s k p)) (not (is_range (object_len s p) from (length bytes))) (has_no_room s k p) Range Closed NotHeld Range NoRoom
+    five_causes (Turns s k (Mutator k (On p (Writes from bytes)))) (not (nat_lt k s.mutators)) (not (is_opened s k)) (not (uses s k p)) (not (is_range (object_len s p) from (length bytes))) (has_no_room s k p) Range Closed NotHeld Range NoRoom
     (λ off _. (λ within. absurd (not_outside k s.mutators within off), λ m ne. refl))
     (λ _ shut _. (λ within. (shut_world s k within (not-true (is_opened s k) shut), refl), λ m ne. refl))
     (λ _ opened unused _. (λ within. (open_world s k (not-false (is_opened s k) opened), own_unused s between.named k p (not-true (uses s k p) unused), refl), λ m ne. refl))
@@ -397,5 +398,11 @@ turns_write s k p from bytes law between small =
     let range = range_in (object_len s p) from (length bytes) inside in
     let access : Access s k p from (length bytes) = record { opened = open_now; ours = ours; some = range.0; within = range.1; room = room } in
     let d = derefs s k p law open_now ours room in
-    subst (λ (t : State). Teaches s k (Mutator k (Write p from bytes)) Done t) (sym (write_leads s k p from bytes law access small).ends)
+    subst (λ (t : State). Teaches s k (Mutator k (On p (Writes from bytes))) Done t) (sym (write_leads s k p from bytes law access small).ends)
     (wrote s k p from bytes law small access (in_of (data_of (dereferenced s k p) p) (object_len s p) from (length bytes) (knows_long s k p ours d) inside)))
+
+-- ---- each use of an object
+pub turns_use : (s : State) (k p : ℕ) (how : Use) → Law s → Between s → WritesBytes (Mutator k (On p how)) → Turns s k (Mutator k (On p how)) (refusal (moment_of s) (Mutator k (On p how)))
+turns_use s k p (Reads from len) law between small = turns_read s k p from len law between
+turns_use s k p (Writes from bytes) law between small = turns_write s k p from bytes law between small
+turns_use s k p Views law between small = turns_view s k p law between

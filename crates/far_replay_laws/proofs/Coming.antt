@@ -18,8 +18,8 @@ use Rattle.far_core.specs.state.Room.{room}
 use Rattle.far_core.specs.state.State.{State}
 use Rattle.far_core.specs.events.Step.{step_of, is_legal, is_opened, after, answer, pin_answer}
 use Rattle.far_core.proofs.KeepOwner.{nonzero}
-use Rattle.far_text.specs.Command.{Command, New, Open, Write, Read, Close, Where, Drop, View, Try, Epoch, Mutator, Book, Evacuator}
-use Rattle.far_alone.specs.Dereference.{come, dereferenced, has_no_room, sought}
+use Rattle.far_text.specs.Command.{Command, New, Open, On, Reads, Writes, Views, Close, Where, Drop, Try, Epoch, Mutator, Book, Evacuator}
+use Rattle.far_alone.specs.Dereference.{come, dereferenced, sought}
 use Rattle.far_book.specs.book.Effects.{near_word}
 use Rattle.far_alone.specs.Effects.{is_slow}
 use Rattle.far_core.specs.events.Ranges.{after_events}
@@ -28,14 +28,14 @@ use Rattle.far_replay.specs.Events.{IsNoStep, turn_events, refused_events}
 use Rattle.far_alone.specs.Events.{zero_puts, new_events, view_events, sought_events, come_events, dereference_events, load_events, soil_events, store_events, first_loads, last_loads, part_events, first_word, words_touched, starts_inside, ends_inside}
 use Rattle.far_replay_laws.specs.Headline.{IsAtHandFor}
 use Rattle.far_replay.specs.Moment.{Moment}
-use Rattle.far_alone.specs.Objects.{uses, object_len, data_of, with_range, lowest_cell, is_range}
+use Rattle.far_alone.specs.Objects.{uses, data_of, with_range, lowest_cell}
 use Rattle.far_replay.specs.Turn.{refusal, unless}
 use Rattle.far_alone.proofs.AloneStates.{lowest_free}
 use Rattle.far_alone.proofs.Drops.{drop_comes, unheld_is}
 use Rattle.std.specs.List.{AllByRecursion as Each}
 use Rattle.far_alone.proofs.Each.{Each-append, Each-row}
 use Rattle.far_alone.proofs.MadeLemmas.{AllComeToPass-append}
-use Rattle.far_replay.proofs.Turns.{access_fact, room_lacks, room_last, three, tried, marked_last}
+use Rattle.far_replay.proofs.Turns.{access_fact, lacks_place, may_reach, three, tried, marked_last}
 use Rattle.far_alone.proofs.Views.{ready_of, Ready-view, hand_has_room, hand_is_fast}
 
 -- ---- events that any answer serves
@@ -107,15 +107,9 @@ is_named s m p law ours = nonzero s law p (and_parts (nat_eq (p / CELLS) m) (s.u
 
 -- a refused command makes no event, where its object is at hand
 refused_come : (now : Moment) (c : Command) (why : Refusal) → IsNoStep c → refusal now c ≡ Some why → Law now.core → IsAtHandFor now c → AllComeToPass now.core (refused_events now c why)
-refused_come now (Mutator m (Write p from bytes)) NoRoom told e law hand =
-    let h = room_lacks (nat_lt m now.core.mutators) (is_opened now.core m) (uses now.core m p) (is_range (object_len now.core p) from (length bytes)) (has_no_room now.core m p) e in
-    absurd (true≢false (sym h.3 ∙ hand_has_room now.core m p (hand (is_named now.core m p law h.2))))
-refused_come now (Mutator m (Read p from len)) NoRoom told e law hand =
-    let h = room_lacks (nat_lt m now.core.mutators) (is_opened now.core m) (uses now.core m p) (is_range (object_len now.core p) from len) (has_no_room now.core m p) e in
-    absurd (true≢false (sym h.3 ∙ hand_has_room now.core m p (hand (is_named now.core m p law h.2))))
-refused_come now (Mutator m (View p)) NoRoom told e law hand =
-    let h = room_last (nat_lt m now.core.mutators) (is_opened now.core m) (uses now.core m p) (has_no_room now.core m p) e in
-    absurd (true≢false (sym h.3 ∙ hand_has_room now.core m p (hand (is_named now.core m p law h.2))))
+refused_come now (Mutator m (On p how)) NoRoom told e law hand =
+    let h = lacks_place now m p how e in
+    absurd (true≢false (sym h.2 ∙ hand_has_room now.core m p (hand (is_named now.core m p law h.1))))
 refused_come now (Mutator m (Try p)) (Marked word) told e law hand =
     let h = marked_last (nat_lt m now.core.mutators) (is_opened now.core m) (uses now.core m p) (is_slow now.core p) (now.core.cell p) word e in
     let at_hand : AtHand now.core p = hand (nonzero now.core law p (and_parts (nat_eq (p / CELLS) m) (now.core.used p) h.2).1) in
@@ -129,7 +123,7 @@ all_come now c (Some why) told e law hand = refused_come now c why told e law ha
 all_come now (Mutator m (New len ds)) None told e law hand = new_comes now.core m len ds (lowest_cell now.core m) (room now.core (size_of len) true) (lowest_free now.core m)
 all_come now (Mutator m Open) None told e law hand =
     cond_both (is_some (now.core.remembered m)) (Opens m ∷ []) (ReadsEpoch m ∷ Opens m ∷ []) (AllComeToPass now.core) (λ _. (tt, tt)) (λ _. (tt, (tt, tt)))
-all_come now (Mutator m (Write p from bytes)) None told e law hand =
+all_come now (Mutator m (On p (Writes from bytes))) None told e law hand =
     let h = access_fact now.core m p from (length bytes) e in
     let view : List Event = dereference_events now.core m p in
     let part : List Event = part_events m p from (length bytes) in
@@ -142,7 +136,7 @@ all_come now (Mutator m (Write p from bytes)) None told e law hand =
     (AllComeToPass-append now.core view soil (deref_comes now.core m p (hand (is_named now.core m p law h.ours))) (all_sure (after_events now.core view) soil (soils (dereferenced now.core m p) m p)))
     (all_sure (after_events now.core (view ++ soil)) part (parts m p from (length bytes))))
     (all_sure (after_events now.core (view ++ soil ++ part)) (store_events m p first touched new) (stores m p first touched new))
-all_come now (Mutator m (Read p from len)) None told e law hand =
+all_come now (Mutator m (On p (Reads from len))) None told e law hand =
     let h = access_fact now.core m p from len e in
     let view : List Event = dereference_events now.core m p in
     let loaded : List Event = load_events m p (first_word from) (words_touched from len) in
@@ -152,9 +146,7 @@ all_come now (Mutator m (Where p)) None told e law hand = tt
 all_come now (Mutator m (Drop p)) None told e law hand =
     let h = three (nat_lt m now.core.mutators) (uses now.core m p) (is_some (now.core.held p)) Range NotHeld Held e in
     drop_comes now.core m p law (ltb-true m now.core.mutators h.0) h.1 (unheld_is (now.core.held p) h.2)
-all_come now (Mutator m (View p)) None told e law hand =
-    let h = tried (nat_lt m now.core.mutators) (is_opened now.core m) (uses now.core m p) (has_no_room now.core m p) Range Closed NotHeld NoRoom e in
-    deref_comes now.core m p (hand (is_named now.core m p law h.2))
+all_come now (Mutator m (On p Views)) None told e law hand = deref_comes now.core m p (hand (is_named now.core m p law (may_reach now m p Views e).1))
 all_come now (Mutator m (Try p)) None told e law hand =
     let h = tried (nat_lt m now.core.mutators) (is_opened now.core m) (uses now.core m p) (is_slow now.core p) Range Closed NotHeld (Marked (now.core.cell p)) e in
     view_comes now.core m p (hand (nonzero now.core law p (and_parts (nat_eq (p / CELLS) m) (now.core.used p) h.2).1))

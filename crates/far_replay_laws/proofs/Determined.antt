@@ -19,7 +19,7 @@ use Rattle.far_replay_laws.specs.Headline.{HasNoFlaw, IsAmple, OneOutput, Outsid
 use Rattle.far_text.proofs.TextLaws.{texts_write}
 use Rattle.far_text.specs.Written.{AllWriteBytes}
 use Rattle.far_replay.proofs.Lasting.{Lasts, first_lasts}
-use Rattle.far_text.specs.Command.{Flawed, Fail, Short, Flip, Command, Device, Trace, Nothing, Heap, Mutator, Evacuator, Write, Read, View, Evacuate, Policy}
+use Rattle.far_text.specs.Command.{Flawed, Fail, Short, Flip, Command, Device, Trace, Nothing, Heap, Mutator, Evacuator, On, Evacuate, Policy}
 use Rattle.far_text.specs.Grammar.{trace_of}
 use Rattle.far_replay.specs.Moment.{Moment, as_if_stored}
 use Rattle.far_reply.specs.Reply.{Reply, Evacuated, Halted, Refused, reply_text}
@@ -59,9 +59,7 @@ given_once row s c p r q t u h k =
 stopped_once : (why : Refusal) (turns objects : ℕ) (s : Moment) (c : Command) (r q : Reply) (t u : Moment) → Stopped why turns objects s c r t → Stopped why turns objects s c q u → (r ≡ q) × (t ≡ u)
 stopped_once why turns objects s c r q t u h k =
     by_stop why turns objects s r t (λ d. Stopped why turns objects s d q u → (r ≡ q) × (t ≡ u))
-    (λ m p from bytes h k. tried_once why s (Mutator m (Write p from bytes)) m p r q t u h k)
-    (λ m p from len h k. tried_once why s (Mutator m (Read p from len)) m p r q t u h k)
-    (λ m p h k. tried_once why s (Mutator m (View p)) m p r q t u h k)
+    (λ m p how h k. tried_once why s (Mutator m (On p how)) m p r q t u h k)
     (λ count h k. left_once why objects s count r q t u h k)
     (λ policy most count h k. round_once why turns objects s policy most count r q t u h k) c h k
 

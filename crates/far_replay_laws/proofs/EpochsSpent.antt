@@ -111,9 +111,7 @@ not_spent end e = cc
 pub steps_spend : StepsSpendEpochs
 steps_spend now step r next is h = by_outcome now r next (λ d. SpendsFor now d r next)
     (λ d h. served_for now d r next is h)
-    (λ why m p from bytes h. tt)
-    (λ why m p from len h. tt)
-    (λ why m p h. tt)
+    (λ why m p how h. tt)
     (λ why objects count h. record {
       epoch = subst (λ x. EpochAfter now.core.epoch (Evacuate count) x next.core.epoch) (sym h.reply) (served_spends now (Evacuate objects) (Evacuated h.progress) next is h.left).epoch;
       last = λ chooses. absurd chooses;
@@ -122,5 +120,5 @@ steps_spend now step r next is h = by_outcome now r next (λ d. SpendsFor now d 
       epoch = subst (λ x. EpochAfter now.core.epoch (Round policy most count) x next.core.epoch) (sym h.reply) tt;
       last = λ chooses rests e. absurd (not_spent (ends.Limit Evacuating) ((served_spends now (Round policy most turns) (Ended (ends.Limit Evacuating)) h.stood is h.turned).last tt rests e));
     })
-    (λ row m p d asks h. by_asked m p (λ x. SpendsFor now x r next) (λ from bytes. tt) (λ from len. tt) tt d asks)
+    (λ row m p d asks h. by_asked m p (λ x. SpendsFor now x r next) (λ how. tt) d asks)
     (Evacuator step) h

@@ -12,7 +12,7 @@ use Rattle.far_book.specs.book.Home.{home_of}
 use Rattle.far_device.specs.declared.liar.Lie.{Lie}
 use Rattle.far_device.specs.declared.liar.Lie.TheVariants.{Never, Short as Shortens, Flip as Inverts}
 use Rattle.far_evac.specs.declared.answers.Progress.{Progress}
-use Rattle.far_text.specs.Command.{Command, Device, Flawed, Fail, Short, Flip, Trace, New, Where, Logs, Mutator, Book, Evacuator, Select}
+use Rattle.far_text.specs.Command.{Command, Device, Flawed, Fail, Short, Flip, Trace, New, On, Reads, Where, Logs, Mutator, Book, Evacuator, Select}
 use Rattle.far_replay.specs.Answers.{AnsweredBy, ByDevice, FlawedAtMost, IsOutput, Outside, Serves, Refuses, Gives, Lacks, Served, Stopped, MisledBy, first_moment, flaws, is_true, lie_of, opened, shape_of}
 use Rattle.far_replay.specs.Moment.{Moment, as_if_stored}
 use Rattle.far_alone.specs.Objects.{lowest_cell}
@@ -46,6 +46,7 @@ home_unhalted (Some home) why progress e = cc
 turn_unhalted : (now : Moment) (c : Command) (why : Refusal) (progress : Progress) → turn_reply now c ≢ Halted why progress
 turn_unhalted now (Mutator m (New len ds)) why progress e = pointer_unhalted (lowest_cell now.core m) why progress e
 turn_unhalted now (Mutator m (Where p)) why progress e = home_unhalted (home_of (read_of (now.core.cell p))) why progress e
+turn_unhalted now (Mutator m (On p (Reads from len))) why progress e = cc
 turn_unhalted now (Book Logs) why progress e = cc
 turn_unhalted now (Evacuator (Select choice most)) why progress e = cc
 turn_unhalted now _ why progress e = cc
@@ -81,7 +82,7 @@ Says why r = (r ≡ Refused why) ⊎ ((progress : Progress) × (r ≡ Halted why
 
 pub stopped_says : (why : Refusal) (turns objects : ℕ) (now : Moment) (c : Command) (r : Reply) (next : Moment) → Stopped why turns objects now c r next → Says why r
 stopped_says why turns objects now c r next h = by_stop why turns objects now r next (λ d. Says why r)
-    (λ m p from bytes k. inl k.reply) (λ m p from len k. inl k.reply) (λ m p k. inl k.reply)
+    (λ m p how k. inl k.reply)
     (λ count k. inr (k.progress, k.reply)) (λ policy most count k. inr (_, k.reply)) c h
 
 undamaged : (why : Refusal) (r : Reply) → why ≡ Failed → Says why r → says_damaged r ≡ false

@@ -7,7 +7,7 @@ use Rattle.far_word.specs.declared.mark.Marks.{Marks}
 use Rattle.far_word.specs.declared.pointer.PtrWord.{PtrWord}
 use Rattle.far_word.specs.declared.pointer.PtrWord.TheVariants.{Near, Far}
 use Rattle.far_word.specs.declared.refused.Refused.{Refused as Refusal}
-use Rattle.far_word.specs.declared.refused.Refused.TheVariants.{Closed, Marked, NoRoom, NotHeld, Range}
+use Rattle.far_word.specs.declared.refused.Refused.TheVariants.{Marked}
 use Rattle.far_word.specs.Pointer.{read_of}
 use Rattle.far_word.specs.Sizes.{size_of}
 use Rattle.far_core.specs.events.Step.{after_pin, is_opened}
@@ -19,7 +19,7 @@ use Rattle.far_evac.specs.declared.answers.Polled.{Polled}
 use Rattle.far_evac.specs.declared.answers.Polled.TheVariants as polls
 use Rattle.far_evac.specs.Waiting.{polled}
 use Rattle.far_policy.specs.Scripted.{is_bad, judged}
-use Rattle.far_text.specs.Command.{Command, New, Write, Read, Drop, View, Try, Logs, Log, Audit, Mutator, Book, Evacuator, Step, By, Script, Select, Wait, Round}
+use Rattle.far_text.specs.Command.{Command, New, On, Views, Drop, Try, Logs, Log, Audit, Mutator, Book, Evacuator, Step, By, Script, Select, Wait, Round}
 use Rattle.far_replay.specs.Answers.{IsMoment, Served, Unbrought}
 use Rattle.far_replay.specs.Commanded.{LiesFar}
 use Rattle.far_alone.specs.Dereference.{comes_to, has_no_room, sought, sought_of}
@@ -33,7 +33,7 @@ use Rattle.far_replay.proofs.Dereferences.{sought_word}
 use Rattle.far_replay.proofs.Lasting.{moment_lasts}
 use Rattle.far_replay.proofs.Outcomes.{by_outcome}
 use Rattle.far_replay.proofs.TakingView.{asked_word, comes_place, place_by}
-use Rattle.far_replay.proofs.Turns.{access_fact, marked_last, tried}
+use Rattle.far_replay.proofs.Turns.{marked_last, may_reach}
 use Rattle.far_replay_laws.specs.FromOutside.{ComesSomewhere, DeviceRefusesFar, HasRoomFor, IsFarFor}
 use Rattle.far_replay_laws.specs.LeftMarks.{GainsHot}
 use Rattle.far_replay_laws.proofs.LeavingMarks.{served_leaves}
@@ -60,10 +60,9 @@ step_never now _ = ((λ _ k. k), λ _. tt)
 
 command_never : (now : Moment) (c : Command) → EachFirst NeverFar (causes now c)
 command_never now (Mutator m (New len ds)) = ((λ _ k. k), λ _. ((λ _ k. k), λ _. ((λ _ k. k), λ _. ((λ _ k. k), λ _. tt))))
-command_never now (Mutator m (Write p from bytes)) = ((λ _ k. k), λ _. ((λ _ k. k), λ _. ((λ _ k. k), λ _. ((λ _ k. k), λ _. ((λ _ k. k), λ _. tt)))))
-command_never now (Mutator m (Read p from len)) = ((λ _ k. k), λ _. ((λ _ k. k), λ _. ((λ _ k. k), λ _. ((λ _ k. k), λ _. ((λ _ k. k), λ _. tt)))))
+command_never now (Mutator m (On p Views)) = ((λ _ k. k), λ _. ((λ _ k. k), λ _. ((λ _ k. k), λ _. ((λ _ k. k), λ _. tt))))
+command_never now (Mutator m (On p how)) = ((λ _ k. k), λ _. ((λ _ k. k), λ _. ((λ _ k. k), λ _. ((λ _ k. k), λ _. ((λ _ k. k), λ _. tt)))))
 command_never now (Mutator m (Drop p)) = ((λ _ k. k), λ _. ((λ _ k. k), λ _. ((λ _ k. k), λ _. tt)))
-command_never now (Mutator m (View p)) = ((λ _ k. k), λ _. ((λ _ k. k), λ _. ((λ _ k. k), λ _. ((λ _ k. k), λ _. tt))))
 command_never now (Mutator m (Try p)) = ((λ _ k. k), λ _. ((λ _ k. k), λ _. ((λ _ k. k), λ _. ((λ _ k. k), λ _. tt))))
 command_never now (Book Logs) = tt
 command_never now (Book (Log l)) = ((λ _ k. k), λ _. tt)
@@ -118,10 +117,7 @@ far_both why now c m p r next is h some =
 pub device_refuses_far : DeviceRefusesFar
 device_refuses_far now c r next why is h e keeps = by_outcome now r next (λ d. IsFarFor now.core d × IsFarFor next.core d × HasRoomFor now.core d)
     (λ d h. absurd (served_never now d r next why h e (keeps_outside why keeps)))
-    (λ cause m p from bytes h. far_both cause now (Mutator m (Write p from bytes)) m p r next is h (access_fact now.core m p from (length bytes) h.allowed).room)
-    (λ cause m p from len h. far_both cause now (Mutator m (Read p from len)) m p r next is h (access_fact now.core m p from len h.allowed).room)
-    (λ cause m p h. far_both cause now (Mutator m (View p)) m p r next is h
-    (tried (nat_lt m now.core.mutators) (is_opened now.core m) (uses now.core m p) (has_no_room now.core m p) Range Closed NotHeld NoRoom h.allowed).3)
+    (λ cause m p how h. far_both cause now (Mutator m (On p how)) m p r next is h (may_reach now m p how h.allowed).2)
     (λ cause objects count h. absurd (not_halted why cause h.progress r h.reply e))
     (λ cause turns objects policy most count h. absurd (not_halted why cause _ r h.reply e))
     (λ row m p d asks h. absurd (h.answered why e))

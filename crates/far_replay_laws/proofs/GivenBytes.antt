@@ -8,7 +8,7 @@ use Rattle.far_core.specs.state.State.{State, put}
 use Rattle.far_core.specs.world.World.{World}
 use Rattle.far_core.specs.world.WorldOf.{world_of}
 use Rattle.far_core.proofs.Put.{put_other, put_same}
-use Rattle.far_text.specs.Command.{Command, Write, Read, View, Mutator}
+use Rattle.far_text.specs.Command.{Command, On, Use, Reads, Writes, Views, Mutator}
 use Rattle.far_text.specs.Written.{AllWriteBytes, WritesBytes}
 use Rattle.far_replay.specs.Alone.{Knows}
 use Rattle.far_alone.specs.Own.{Own, bytes_in_world, own_of}
@@ -34,7 +34,7 @@ record Shows (p : ℕ) (c : Command) (r : Reply) (o q : Own) (all : List ℕ) : 
 pub same_bytes : (a b : List ℕ) → Some a ≡ Some b → a ≡ b
 same_bytes a b e = cc
 
-shows_write : (m p from : ℕ) (new all : List ℕ) (o q : Own) → Knows m o (Mutator m (Write p from new)) Done q → o.object p ≡ Some all → Shows p (Mutator m (Write p from new)) Done o q all
+shows_write : (m p from : ℕ) (new all : List ℕ) (o q : Own) → Knows m o (Mutator m (On p (Writes from new))) Done q → o.object p ≡ Some all → Shows p (Mutator m (On p (Writes from new))) Done o q all
 shows_write m p from new all o q (opened, (bytes, is, inside, then)) had =
     let same : bytes ≡ all = same_bytes bytes all (sym is ∙ had) in
     record {
@@ -43,7 +43,7 @@ shows_write m p from new all o q (opened, (bytes, is, inside, then)) had =
       others = λ x ne. ap (λ (y : Own). y.object x) then ∙ put_other o.object p (Some (with_range bytes from new)) x ne;
     }
 
-shows_read : (m p from len : ℕ) (told all : List ℕ) (o q : Own) → Knows m o (Mutator m (Read p from len)) (Data told) q → o.object p ≡ Some all → Shows p (Mutator m (Read p from len)) (Data told) o q all
+shows_read : (m p from len : ℕ) (told all : List ℕ) (o q : Own) → Knows m o (Mutator m (On p (Reads from len))) (Data told) q → o.object p ≡ Some all → Shows p (Mutator m (On p (Reads from len))) (Data told) o q all
 shows_read m p from len told all o q (opened, then, (bytes, is, inside, tells)) had =
     let same : bytes ≡ all = same_bytes bytes all (sym is ∙ had) in
     record {
@@ -52,7 +52,7 @@ shows_read m p from len told all o q (opened, then, (bytes, is, inside, tells)) 
       others = λ x ne. ap (λ (y : Own). y.object x) then;
     }
 
-shows_view : (m p : ℕ) (all : List ℕ) (o q : Own) → Knows m o (Mutator m (View p)) Done q → o.object p ≡ Some all → Shows p (Mutator m (View p)) Done o q all
+shows_view : (m p : ℕ) (all : List ℕ) (o q : Own) → Knows m o (Mutator m (On p Views)) Done q → o.object p ≡ Some all → Shows p (Mutator m (On p Views)) Done o q all
 shows_view m p all o q (opened, then, has) had = record {
   object = ap (λ (x : Own). x.object p) then ∙ had;
   told = refl;
@@ -150,11 +150,13 @@ module _ (row : ℕ → ℕ) (now : Moment) (m p : ℕ) (r : Reply) (next : Mome
       let mine : Knowing c r = taught.0 (within c asks h) in
       changes c asks small h mine taught.1 (λ all had. subst (λ y. Showing c y all) (sym is) (shows all (subst (Knowing c) is mine) had))
 
+  use_changes : (how : Use) → WritesBytes (Mutator m (On p how)) → Misled row now (Mutator m (On p how)) p r next → ChangesObject row m p now (Mutator m (On p how)) r next
+  use_changes (Writes from new) small h = by_reply (Mutator m (On p (Writes from new))) (refl, refl) small h Done (misled_reply row now (Mutator m (On p (Writes from new))) p r next h) (λ all knows had. shows_write m p from new all _ _ knows had)
+  use_changes (Reads from len) small h = by_reply (Mutator m (On p (Reads from len))) (refl, refl) small h _ (misled_reply row now (Mutator m (On p (Reads from len))) p r next h) (λ all knows had. shows_read m p from len _ all _ _ knows had)
+  use_changes Views small h = by_reply (Mutator m (On p Views)) (refl, refl) small h Done (misled_reply row now (Mutator m (On p Views)) p r next h) (λ all knows had. shows_view m p all _ _ knows had)
+
   pub object_changes : (c : Command) → AsksFor m p c → WritesBytes c → Misled row now c p r next → ChangesObject row m p now c r next
-  object_changes = by_asked m p (λ d. WritesBytes d → Misled row now d p r next → ChangesObject row m p now d r next)
-      (λ from new small h. by_reply (Mutator m (Write p from new)) (refl, refl) small h Done (misled_reply row now (Mutator m (Write p from new)) p r next h) (λ all knows had. shows_write m p from new all _ _ knows had))
-      (λ from len small h. by_reply (Mutator m (Read p from len)) (refl, refl) small h _ (misled_reply row now (Mutator m (Read p from len)) p r next h) (λ all knows had. shows_read m p from len _ all _ _ knows had))
-      (λ small h. by_reply (Mutator m (View p)) (refl, refl) small h Done (misled_reply row now (Mutator m (View p)) p r next h) (λ all knows had. shows_view m p all _ _ knows had))
+  object_changes = by_asked m p (λ d. WritesBytes d → Misled row now d p r next → ChangesObject row m p now d r next) use_changes
 
 pub lies_change : LiesChangeOneObject
 lies_change row inverts now c r next is bytes h =

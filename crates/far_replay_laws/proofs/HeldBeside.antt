@@ -14,7 +14,7 @@ use Rattle.far_core.specs.state.State.{State, put}
 use Rattle.far_core.specs.world.WorldOf.{object_of, world_of}
 use Rattle.far_core.proofs.Cells.{unused}
 use Rattle.far_core.proofs.Put.{put_other, put_same}
-use Rattle.far_text.specs.Command.{Command, New, Open, Write, Read, Close, Where, Drop, View, Try, Epoch, Mutator, Book, Evacuator}
+use Rattle.far_text.specs.Command.{Command, New, Open, On, Use, Reads, Writes, Views, Close, Where, Drop, Try, Epoch, Mutator, Book, Evacuator}
 use Rattle.far_text.specs.Written.{WritesBytes}
 use Rattle.far_reply.specs.Reply.{Reply, Done, Pointer, Data, Lies, EpochRead, Refused}
 use Rattle.far_replay.specs.Alone.{Knows, is_by, speaker}
@@ -41,7 +41,7 @@ use Rattle.far_replay_laws.proofs.LeftBeside.{commands_beside}
 -- the object isn't the one that a command made, wrote or dropped; a drop is done or refused
 abbrev pub Untouched : Command → Reply → ℕ → Type 0
 Untouched (Mutator m (New len ds)) (Pointer p) x = x ≢ p
-Untouched (Mutator m (Write p from bytes)) Done x = x ≢ p
+Untouched (Mutator m (On p (Writes from bytes))) Done x = x ≢ p
 Untouched (Mutator m (Drop p)) Done x = x ≢ p
 Untouched (Mutator m (Drop p)) (Refused why) x = Unit {0}
 Untouched (Mutator m (Drop p)) r x = ⊥
@@ -57,31 +57,20 @@ knows_objects m o q (Mutator k Open) Done h x ne = ap (λ (y : Own). y.object x)
 knows_objects m o q (Mutator k Open) (Refused AlreadyOpen) h x ne = ap (λ (y : Own). y.object x) h.1
 knows_objects m o q (Mutator k Close) Done h x ne = ap (λ (y : Own). y.object x) h.1
 knows_objects m o q (Mutator k Close) (Refused Closed) h x ne = ap (λ (y : Own). y.object x) h.1
-knows_objects m o q (Mutator k (Read p from len)) (Data bytes) h x ne = ap (λ (y : Own). y.object x) h.1
-knows_objects m o q (Mutator k (Read p from len)) (Refused Closed) h x ne = ap (λ (y : Own). y.object x) h.1
-knows_objects m o q (Mutator k (Read p from len)) (Refused NotHeld) h x ne = ap (λ (y : Own). y.object x) h.2
-knows_objects m o q (Mutator k (Read p from len)) (Refused Range) h x ne = ap (λ (y : Own). y.object x) h.1
-knows_objects m o q (Mutator k (Read p from len)) (Refused NoRoom) h x ne = ap (λ (y : Own). y.object x) h.2
-knows_objects m o q (Mutator k (Read p from len)) (Refused Device) h x ne = ap (λ (y : Own). y.object x) h.2
-knows_objects m o q (Mutator k (Read p from len)) (Refused Damaged) h x ne = ap (λ (y : Own). y.object x) h.2
-knows_objects m o q (Mutator k (Write p from new)) (Refused NoRoom) h x ne = ap (λ (y : Own). y.object x) h.2
-knows_objects m o q (Mutator k (Write p from new)) (Refused Device) h x ne = ap (λ (y : Own). y.object x) h.2
-knows_objects m o q (Mutator k (Write p from new)) (Refused Damaged) h x ne = ap (λ (y : Own). y.object x) h.2
-knows_objects m o q (Mutator k (Write p from new)) Done (opened, (all, is, inside, then)) x ne = ap (λ (y : Own). y.object x) then ∙ put_other o.object p (Some (with_range all from new)) x ne
-knows_objects m o q (Mutator k (Write p from new)) (Refused Closed) h x ne = ap (λ (y : Own). y.object x) h.1
-knows_objects m o q (Mutator k (Write p from new)) (Refused NotHeld) h x ne = ap (λ (y : Own). y.object x) h.2
-knows_objects m o q (Mutator k (Write p from new)) (Refused Range) h x ne = ap (λ (y : Own). y.object x) h.1
+knows_objects m o q (Mutator k (On p how)) (Refused Closed) h x ne = ap (λ (y : Own). y.object x) h.1
+knows_objects m o q (Mutator k (On p how)) (Refused NotHeld) h x ne = ap (λ (y : Own). y.object x) h.2
+knows_objects m o q (Mutator k (On p how)) (Refused Range) h x ne = ap (λ (y : Own). y.object x) h.1
+knows_objects m o q (Mutator k (On p how)) (Refused NoRoom) h x ne = ap (λ (y : Own). y.object x) h.2
+knows_objects m o q (Mutator k (On p how)) (Refused Device) h x ne = ap (λ (y : Own). y.object x) h.2
+knows_objects m o q (Mutator k (On p how)) (Refused Damaged) h x ne = ap (λ (y : Own). y.object x) h.2
+knows_objects m o q (Mutator k (On p (Reads from len))) (Data bytes) h x ne = ap (λ (y : Own). y.object x) h.1
+knows_objects m o q (Mutator k (On p (Writes from new))) Done (opened, (all, is, inside, then)) x ne = ap (λ (y : Own). y.object x) then ∙ put_other o.object p (Some (with_range all from new)) x ne
+knows_objects m o q (Mutator k (On p Views)) Done h x ne = ap (λ (y : Own). y.object x) h.1
 knows_objects m o q (Mutator k (Where p)) (Lies home) h x ne = ap (λ (y : Own). y.object x) h.0
 knows_objects m o q (Mutator k (Where p)) (Refused NotHeld) h x ne = ap (λ (y : Own). y.object x) h.1
 knows_objects m o q (Mutator k (Drop p)) Done h x ne = ap (λ (y : Own). y.object x) h.1 ∙ put_other o.object p None x ne
 knows_objects m o q (Mutator k (Drop p)) (Refused NotHeld) h x ne = ap (λ (y : Own). y.object x) h.1
 knows_objects m o q (Mutator k (Drop p)) (Refused Held) h x ne = ap (λ (y : Own). y.object x) h.1
-knows_objects m o q (Mutator k (View p)) Done h x ne = ap (λ (y : Own). y.object x) h.1
-knows_objects m o q (Mutator k (View p)) (Refused Closed) h x ne = ap (λ (y : Own). y.object x) h.1
-knows_objects m o q (Mutator k (View p)) (Refused NotHeld) h x ne = ap (λ (y : Own). y.object x) h.2
-knows_objects m o q (Mutator k (View p)) (Refused NoRoom) h x ne = ap (λ (y : Own). y.object x) h.2
-knows_objects m o q (Mutator k (View p)) (Refused Device) h x ne = ap (λ (y : Own). y.object x) h.2
-knows_objects m o q (Mutator k (View p)) (Refused Damaged) h x ne = ap (λ (y : Own). y.object x) h.2
 knows_objects m o q (Mutator k (Try p)) Done h x ne = ap (λ (y : Own). y.object x) h.1
 knows_objects m o q (Mutator k (Try p)) (Refused Closed) h x ne = ap (λ (y : Own). y.object x) h.1
 knows_objects m o q (Mutator k (Try p)) (Refused NotHeld) h x ne = ap (λ (y : Own). y.object x) h.2
@@ -214,20 +203,12 @@ new_clean now m len ds (Pointer q) after p (others, (place, is)) clean = dirty_a
 new_clean now m len ds (Refused why) after p h clean = (moments_clean now after p h clean, tt)
 new_clean now m len ds _ after p h clean = absurd h
 
-write_clean : (s t : State) (m q from : ℕ) (bytes : List ℕ) (r : Reply) (p : ℕ) → LeavesMarks s (Mutator m (Write q from bytes)) r t → Clean t p → Clean s p × Untouched (Mutator m (Write q from bytes)) r p
-write_clean s t m q from bytes Done p h clean = dirty_apart s t q (written_dirty s t q h) h.others p clean
-write_clean s t m q from bytes (Refused why) p h clean = (refused_clean s t q why h p clean, tt)
-write_clean s t m q from bytes _ p h clean = absurd h
-
-read_clean : (s t : State) (m q from len : ℕ) (r : Reply) (p : ℕ) → LeavesMarks s (Mutator m (Read q from len)) r t → Clean t p → Clean s p
-read_clean s t m q from len (Data bytes) p h clean = hot_clean s t q h p clean
-read_clean s t m q from len (Refused why) p h clean = refused_clean s t q why h p clean
-read_clean s t m q from len _ p h clean = absurd h
-
-view_clean : (s t : State) (m q : ℕ) (r : Reply) (p : ℕ) → LeavesMarks s (Mutator m (View q)) r t → Clean t p → Clean s p
-view_clean s t m q Done p h clean = hot_clean s t q h p clean
-view_clean s t m q (Refused why) p h clean = refused_clean s t q why h p clean
-view_clean s t m q _ p h clean = absurd h
+use_clean : (s t : State) (m q : ℕ) (how : Use) (r : Reply) (p : ℕ) → LeavesMarks s (Mutator m (On q how)) r t → Clean t p → Clean s p × Untouched (Mutator m (On q how)) r p
+use_clean s t m q (Writes from bytes) Done p h clean = dirty_apart s t q (written_dirty s t q h) h.others p clean
+use_clean s t m q (Reads from len) (Data bytes) p h clean = (hot_clean s t q h p clean, tt)
+use_clean s t m q Views Done p h clean = (hot_clean s t q h p clean, tt)
+use_clean s t m q how (Refused why) p h clean = (refused_clean s t q why h p clean, tt)
+use_clean s t m q _ _ p h clean = absurd h
 
 tried_clean : (s t : State) (m q : ℕ) (r : Reply) (p : ℕ) → LeavesMarks s (Mutator m (Try q)) r t → Clean t p → Clean s p
 tried_clean s t m q Done p h clean = hot_clean s t q h p clean
@@ -247,12 +228,10 @@ module _ (o : Outside) (now : Moment) (r : Reply) (after : Moment) (is : IsMomen
   clean_before : (c : Command) → IsNoStep c → CommandedBy o now c r after → Clean now.core p × Untouched c r p
   clean_before (Mutator m (New n ds)) told h = new_clean now m n ds r after p (beside (Mutator m (New n ds)) h) clean
   clean_before (Mutator m Open) told h = (cells_clean now.core after.core p ((beside (Mutator m Open) h).cells p) clean, tt)
-  clean_before (Mutator m (Write q from bytes)) told h = write_clean now.core after.core m q from bytes r p (marks (Mutator m (Write q from bytes)) h) clean
-  clean_before (Mutator m (Read q from n)) told h = (read_clean now.core after.core m q from n r p (marks (Mutator m (Read q from n)) h) clean, tt)
+  clean_before (Mutator m (On q how)) told h = use_clean now.core after.core m q how r p (marks (Mutator m (On q how)) h) clean
   clean_before (Mutator m Close) told h = (cells_clean now.core after.core p ((beside (Mutator m Close) h).cells p) clean, tt)
   clean_before (Mutator m (Where q)) told h = (moments_clean now after p (beside (Mutator m (Where q)) h) clean, tt)
   clean_before (Mutator m (Drop q)) told h = dropped_clean now m q r after (moment_lasts now is).law (drop_served o now m q r after h) p len kept
-  clean_before (Mutator m (View q)) told h = (view_clean now.core after.core m q r p (marks (Mutator m (View q)) h) clean, tt)
   clean_before (Mutator m (Try q)) told h = (tried_clean now.core after.core m q r p (marks (Mutator m (Try q)) h) clean, tt)
   clean_before (Mutator m Epoch) told h = (cells_clean now.core after.core p ((beside (Mutator m Epoch) h).cells p) clean, tt)
   clean_before (Book inquiry) told h = (moments_clean now after p (beside (Book inquiry) h) clean, tt)
@@ -273,12 +252,10 @@ world_kept s p all has clean = object_kept s.word (s.stored p) p (read_of (s.cel
 holds_key : (c : Command) (r : Reply) (s t : State) (held later : FarBytes) → IsNoStep c → HoldsBy c s t held later → (p len : ℕ) → kept_len (read_of (t.cell p)) ≡ Some len → later p ≡ held p
 holds_key (Mutator m (New len ds)) r s t held later told h p n kept = h p
 holds_key (Mutator m Open) r s t held later told h p n kept = h p
-holds_key (Mutator m (Write q from bytes)) r s t held later told h p n kept = h p
-holds_key (Mutator m (Read q from len)) r s t held later told h p n kept = h p
+holds_key (Mutator m (On q how)) r s t held later told h p n kept = h p
 holds_key (Mutator m Close) r s t held later told h p n kept = h p
 holds_key (Mutator m (Where q)) r s t held later told h p n kept = h p
 holds_key (Mutator m (Drop q)) r s t held later told h p n kept = h p n kept
-holds_key (Mutator m (View q)) r s t held later told h p n kept = h p
 holds_key (Mutator m (Try q)) r s t held later told h p n kept = h p
 holds_key (Mutator m Epoch) r s t held later told h p n kept = h p
 holds_key (Book inquiry) r s t held later told h p n kept = h p

@@ -24,9 +24,7 @@ halted_is why cause progress e = cc
 halts_there : (now : Moment) (c : Command) (r : Reply) (next : Moment) (progress : Progress) → IsMoment now → Commanded now c r next → r ≡ Halted Memory progress → HaltsThere now c next
 halts_there now c r next progress is h e = by_outcome now r next (λ d. HaltsThere now d next)
     (λ d h. absurd (served_unhalted now d r next Memory progress h e))
-    (λ why m p from bytes h. absurd (halted_no Memory why progress (sym h.reply ∙ e)))
-    (λ why m p from len h. absurd (halted_no Memory why progress (sym h.reply ∙ e)))
-    (λ why m p h. absurd (halted_no Memory why progress (sym h.reply ∙ e)))
+    (λ why m p how h. absurd (halted_no Memory why progress (sym h.reply ∙ e)))
     (λ why objects count h.
     let x = subst (λ q. TellsStep now (Evacuate count) q next) e (steps_told now (Evacuate count) r next is (Refuses why 0 objects, h)) in
     let time = x.time (halted_is Memory _ progress) in
@@ -47,9 +45,7 @@ kept_never why r keeps is e = subst KeepsFar (refusals_alike why Memory (sym is 
 never_refused : (now : Moment) (c : Command) (r : Reply) (next : Moment) → Commanded now c r next → r ≢ Refused Memory
 never_refused now c r next h e = by_outcome now r next (λ d. ⊥)
     (λ d h. served_never now d r next Memory h e tt)
-    (λ why m p from bytes h. kept_never why r h.cause h.reply e)
-    (λ why m p from len h. kept_never why r h.cause h.reply e)
-    (λ why m p h. kept_never why r h.cause h.reply e)
+    (λ why m p how h. kept_never why r h.cause h.reply e)
     (λ why objects count h. halted_is why Memory _ (sym h.reply ∙ e))
     (λ why turns objects policy most count h. halted_is why Memory _ (sym h.reply ∙ e))
     (λ row m p d asks h. h.answered Memory e)

@@ -17,7 +17,7 @@ use Rattle.far_core.specs.state.State.{State}
 use Rattle.far_core.proofs.Cells.{map_mark, read_hot}
 use Rattle.far_core.proofs.Put.{put_other, put_same}
 use Rattle.far_core.proofs.Bounds.{some_of}
-use Rattle.far_text.specs.Command.{Command, Write, Read, View, Try, Mutator}
+use Rattle.far_text.specs.Command.{Command, On, Reads, Writes, Views, Try, Mutator}
 use Rattle.far_replay.specs.Answers.{Commanded, Served, Unbrought, IsMoment}
 use Rattle.far_replay.specs.Commanded.{KeepsFar}
 use Rattle.far_replay.proofs.Outcomes.{by_outcome}
@@ -41,7 +41,7 @@ use Rattle.far_alone.proofs.Leading.{leads_law}
 use Rattle.far_replay_laws.proofs.Refusals.{among, of_far}
 use Rattle.far_alone.proofs.Soiling.{soiled_reads}
 use Rattle.far_replay.proofs.TakingView.{asked_word}
-use Rattle.far_replay.proofs.Turns.{access_fact, tried}
+use Rattle.far_replay.proofs.Turns.{may_reach, tried}
 use Rattle.far_alone.proofs.Views.{anew_is, fast_dereference, fast_seen, Already, Anew, Seen, pin_read, slow_parts}
 use Rattle.far_replay_laws.proofs.Misleading.{as_misled}
 use Rattle.far_core.specs.world.WorldOf.{world_of}
@@ -207,9 +207,9 @@ access_refused now m p from count why after law range closed unused full e =
       ),
     ) e
 
-view_refused : (now : Moment) (m p : ℕ) (why : Refusal) → Law now.core → refusal now (Mutator m (View p)) ≡ Some why →
-    RefusedLeaves now.core p why (refused_effect now (Mutator m (View p)) why).core
-view_refused now m p why law e = among (λ x. RefusedLeaves now.core p x (refused_effect now (Mutator m (View p)) x).core) (causes now (Mutator m (View p))) why
+view_refused : (now : Moment) (m p : ℕ) (why : Refusal) → Law now.core → refusal now (Mutator m (On p Views)) ≡ Some why →
+    RefusedLeaves now.core p why (refused_effect now (Mutator m (On p Views)) why).core
+view_refused now m p why law e = among (λ x. RefusedLeaves now.core p x (refused_effect now (Mutator m (On p Views)) x).core) (causes now (Mutator m (On p Views))) why
     ((λ _. refl), λ _. ((λ _. refl), λ shut. ((λ _. refl), λ other. (room_gains now.core m p law (not-false (is_opened now.core m) shut) (not-false (uses now.core m p) other), λ _. tt)))) e
 
 try_refused : (now : Moment) (m p : ℕ) (why : Refusal) → Law now.core → refusal now (Mutator m (Try p)) ≡ Some why →
@@ -230,24 +230,21 @@ try_refused now m p why law e = among (λ x. TryLeaves now.core p x (refused_eff
 
 leaves : (now : Moment) (c : Command) (o : Option Refusal) → IsMoment now → refusal now c ≡ o →
     LeavesMarks now.core c (unless o Refused (turn_reply now c)) (unless o (refused_effect now c) (turn_effect now c)).core
-leaves now (Mutator m (Write p from bytes)) None is e =
-    let access = access_fact now.core m p from (length bytes) e in
+leaves now (Mutator m (On p (Writes from bytes))) None is e =
+    let h = may_reach now m p (Writes from bytes) e in
     let law = (moment_lasts now is).law in
     let t : State = dereferenced now.core m p in
-    let led = derefs now.core m p law access.opened access.ours access.room in
-    leaves_written now.core t (with_data t p from bytes) p law (left now.core m p law access.opened access.ours access.room) (moment_hot now is p)
+    let led = derefs now.core m p law h.0 h.1 h.2 in
+    leaves_written now.core t (with_data t p from bytes) p law (left now.core m p law h.0 h.1 h.2) (moment_hot now is p)
     (soiled_reads t led.law m p led.view.len led.view.place led.view.holds) (λ q ne. put_other t.cell p (bit_or (t.cell p) (2 ^ position Dirty)) q ne)
-leaves now (Mutator m (Write p from bytes)) (Some why) is e =
-    access_refused now m p from (length bytes) why (refused_effect now (Mutator m (Write p from bytes))) (moment_lasts now is).law refl refl refl refl e
-leaves now (Mutator m (Read p from len)) None is e =
-    let access = access_fact now.core m p from len e in
-    leaves_hot now.core (dereferenced now.core m p) p (left now.core m p (moment_lasts now is).law access.opened access.ours access.room) (moment_hot now is p)
-leaves now (Mutator m (Read p from len)) (Some why) is e =
-    access_refused now m p from len why (refused_effect now (Mutator m (Read p from len))) (moment_lasts now is).law refl refl refl refl e
-leaves now (Mutator m (View p)) None is e =
-    let h = tried (nat_lt m now.core.mutators) (is_opened now.core m) (uses now.core m p) (has_no_room now.core m p) Range Closed NotHeld NoRoom e in
-    leaves_hot now.core (dereferenced now.core m p) p (left now.core m p (moment_lasts now is).law h.1 h.2 h.3) (moment_hot now is p)
-leaves now (Mutator m (View p)) (Some why) is e = view_refused now m p why (moment_lasts now is).law e
+leaves now (Mutator m (On p (Writes from bytes))) (Some why) is e =
+    access_refused now m p from (length bytes) why (refused_effect now (Mutator m (On p (Writes from bytes)))) (moment_lasts now is).law refl refl refl refl e
+leaves now (Mutator m (On p how)) None is e =
+    let h = may_reach now m p how e in
+    leaves_hot now.core (dereferenced now.core m p) p (left now.core m p (moment_lasts now is).law h.0 h.1 h.2) (moment_hot now is p)
+leaves now (Mutator m (On p (Reads from len))) (Some why) is e =
+    access_refused now m p from len why (refused_effect now (Mutator m (On p (Reads from len)))) (moment_lasts now is).law refl refl refl refl e
+leaves now (Mutator m (On p Views)) (Some why) is e = view_refused now m p why (moment_lasts now is).law e
 leaves now (Mutator m (Try p)) None is e =
     let h = tried (nat_lt m now.core.mutators) (is_opened now.core m) (uses now.core m p) (is_slow now.core p) Range Closed NotHeld (MarkFound (now.core.cell p)) e in
     leaves_hot now.core (with_view now.core p) p (fast_left now.core m p (moment_lasts now is).law h.1 h.2 h.3) (moment_hot now is p)
@@ -280,9 +277,7 @@ written_as_if s t p row x = record { hot = x.hot; again = x.again; anew = x.anew
 pub commands_leave : (now : Moment) (c : Command) (r : Reply) (next : Moment) → IsMoment now → Commanded now c r next → LeavesMarks now.core c r next.core
 commands_leave now c r next is h = by_outcome now r next (λ d. LeavesMarks now.core d r next.core)
     (λ d h. served_leaves now d r next is h)
-    (λ why m p from bytes h. subst (λ x. LeavesMarks now.core (Mutator m (Write p from bytes)) x next.core) (sym h.reply) (tried_leaves now (Mutator m (Write p from bytes)) why m p r next is h))
-    (λ why m p from len h. subst (λ x. LeavesMarks now.core (Mutator m (Read p from len)) x next.core) (sym h.reply) (tried_leaves now (Mutator m (Read p from len)) why m p r next is h))
-    (λ why m p h. subst (λ x. LeavesMarks now.core (Mutator m (View p)) x next.core) (sym h.reply) (tried_leaves now (Mutator m (View p)) why m p r next is h))
+    (λ why m p how h. subst (λ x. LeavesMarks now.core (Mutator m (On p how)) x next.core) (sym h.reply) (tried_leaves now (Mutator m (On p how)) why m p r next is h))
     (λ why objects count h. tt)
     (λ why turns objects policy most count h. tt)
     (λ row m p d asks h. as_misled row now r next m p (λ now c r next. LeavesMarks now.core c r next.core) (λ from bytes. written_as_if now.core next.core p row) (λ from len bytes. hot_as_if now.core next.core p row) (hot_as_if now.core next.core p row)

@@ -42,7 +42,7 @@ use Rattle.far_replay.specs.Turn.{access_causes, causes, first_cause, pointer_re
 use Rattle.far_alone.proofs.AloneStates.{lowest_free}
 use Rattle.far_replay.proofs.Lasting.{moment_lasts, misled_from}
 use Rattle.far_replay.proofs.Turns.{new_tests}
-use Rattle.far_text.specs.Command.{Command, New, Open, Write, Read, Close, Where, Drop, View, Try, Epoch, Mutator, Book, Evacuator}
+use Rattle.far_text.specs.Command.{Command, New, Open, On, Reads, Writes, Views, Close, Where, Drop, Try, Epoch, Mutator, Book, Evacuator}
 use Rattle.far_replay_laws.specs.LeftBeside.{AllButObject, AllButScope, LeavesBeside, NewLeaves}
 use Rattle.far_replay_laws.proofs.AloneNew.{is_length, is_structure}
 use Rattle.far_replay_laws.proofs.Refusals.{among}
@@ -212,8 +212,8 @@ access_beside now m p from count why turned range closed unused full e =
       ),
     ) e
 
-view_refused : (now : Moment) (m p : ℕ) (why : Refusal) → refusal now (Mutator m (View p)) ≡ Some why → AllButObject now.core (refused_effect now (Mutator m (View p)) why).core p
-view_refused now m p why e = among (λ x. AllButObject now.core (refused_effect now (Mutator m (View p)) x).core p) (causes now (Mutator m (View p))) why
+view_refused : (now : Moment) (m p : ℕ) (why : Refusal) → refusal now (Mutator m (On p Views)) ≡ Some why → AllButObject now.core (refused_effect now (Mutator m (On p Views)) why).core p
+view_refused now m p why e = among (λ x. AllButObject now.core (refused_effect now (Mutator m (On p Views)) x).core p) (causes now (Mutator m (On p Views))) why
     ((λ _. same now.core p), λ _. ((λ _. same now.core p), λ _. ((λ _. same now.core p), λ _. ((λ _. sought_beside now.core m p), λ _. tt)))) e
 
 try_refused : (now : Moment) (m p : ℕ) (why : Refusal) → refusal now (Mutator m (Try p)) ≡ Some why → AllButObject now.core (refused_effect now (Mutator m (Try p)) why).core p
@@ -226,19 +226,18 @@ leaves now (Mutator m (New len ds)) None law e = new_leaves now m len ds law e
 leaves now (Mutator m (New len ds)) (Some why) law e = refl
 leaves now (Mutator m Open) None law e = scope_beside now.core m
 leaves now (Mutator m Open) (Some why) law e = shut now.core m
-leaves now (Mutator m (Write p from bytes)) None law e = data_beside now.core (dereferenced now.core m p) p from bytes (dereferenced_beside now.core m p)
-leaves now (Mutator m (Write p from bytes)) (Some why) law e =
-    access_beside now m p from (length bytes) why (refused_effect now (Mutator m (Write p from bytes))) refl refl refl refl e
-leaves now (Mutator m (Read p from len)) None law e = dereferenced_beside now.core m p
-leaves now (Mutator m (Read p from len)) (Some why) law e = access_beside now m p from len why (refused_effect now (Mutator m (Read p from len))) refl refl refl refl e
+leaves now (Mutator m (On p (Writes from bytes))) None law e = data_beside now.core (dereferenced now.core m p) p from bytes (dereferenced_beside now.core m p)
+leaves now (Mutator m (On p (Writes from bytes))) (Some why) law e =
+    access_beside now m p from (length bytes) why (refused_effect now (Mutator m (On p (Writes from bytes)))) refl refl refl refl e
+leaves now (Mutator m (On p how)) None law e = dereferenced_beside now.core m p
+leaves now (Mutator m (On p (Reads from len))) (Some why) law e = access_beside now m p from len why (refused_effect now (Mutator m (On p (Reads from len)))) refl refl refl refl e
 leaves now (Mutator m Close) None law e = close_beside now.core m
 leaves now (Mutator m Close) (Some why) law e = shut now.core m
 leaves now (Mutator m (Where p)) None law e = refl
 leaves now (Mutator m (Where p)) (Some why) law e = refl
 leaves now (Mutator m (Drop p)) None law e = without_beside now.core m p
 leaves now (Mutator m (Drop p)) (Some why) law e = same now.core p
-leaves now (Mutator m (View p)) None law e = dereferenced_beside now.core m p
-leaves now (Mutator m (View p)) (Some why) law e = view_refused now m p why e
+leaves now (Mutator m (On p Views)) (Some why) law e = view_refused now m p why e
 leaves now (Mutator m (Try p)) None law e = view_beside now.core p
 leaves now (Mutator m (Try p)) (Some why) law e = try_refused now m p why e
 leaves now (Mutator m Epoch) None law e = epoch_beside now.core m
@@ -258,9 +257,7 @@ beside_as_if s t p row x = record { cells = x.cells; used = x.used; views = x.vi
 pub commands_beside : (now : Moment) (c : Command) (r : Reply) (next : Moment) → IsMoment now → Commanded now c r next → LeavesBeside now c r next
 commands_beside now c r next is h = by_outcome now r next (λ d. LeavesBeside now d r next)
     (λ d h. served_beside now d r next is h)
-    (λ why m p from bytes h. served_beside now (Mutator m (Try p)) (Refused (Marked (now.core.cell p))) next is h.tried)
-    (λ why m p from len h. served_beside now (Mutator m (Try p)) (Refused (Marked (now.core.cell p))) next is h.tried)
-    (λ why m p h. served_beside now (Mutator m (Try p)) (Refused (Marked (now.core.cell p))) next is h.tried)
+    (λ why m p how h. served_beside now (Mutator m (Try p)) (Refused (Marked (now.core.cell p))) next is h.tried)
     (λ why objects count h. tt)
     (λ why turns objects policy most count h. tt)
     (λ row m p d asks h. as_misled row now r next m p LeavesBeside (λ from bytes. beside_as_if now.core next.core p row) (λ from len bytes. beside_as_if now.core next.core p row) (beside_as_if now.core next.core p row)

@@ -21,7 +21,7 @@ use Rattle.far_evac.specs.Waiting.{first_open, polled_to}
 use Rattle.far_evac.specs.Walk.{ended, walked}
 use Rattle.far_evac.specs.declared.phase.Phase.TheVariants.{Evacuating, Idle}
 use Rattle.far_evac.proofs.Marks.{is_given_up, is_marked}
-use Rattle.far_text.specs.Command.{Command, Write, Read, View, Mutator, Book, Evacuator, By, Policy, Step, Select, Mark, Wait, Evacuate, Abort, Round}
+use Rattle.far_text.specs.Command.{Command, On, Mutator, Book, Evacuator, By, Policy, Step, Select, Mark, Wait, Evacuate, Abort, Round}
 use Rattle.far_replay.specs.Answers.{Commanded, Refuses, Served, Serves, StopsLeaving, StopsRound, IsMoment, Gives}
 use Rattle.far_evac.specs.declared.answers.RoundEnd.TheVariants.{Limit}
 use Rattle.far_replay.proofs.Outcomes.{by_outcome}
@@ -266,15 +266,11 @@ served_so now (Evacuator step) r next lasts h = served_left now step r next last
 pub left_so : (now : Moment) (c : Command) (r : Reply) (next : Moment) → Lasts now → Commanded now c r next → Leaves now c r next
 left_so now c r next lasts h = by_outcome now r next (λ d. Leaves now d r next)
     (λ d h. served_so now d r next lasts h)
-    (λ why m p from new h. stands now (Mutator m (Write p from new)) r next lasts (Refuses why 0 0, h))
-    (λ why m p from len h. stands now (Mutator m (Read p from len)) r next lasts (Refuses why 0 0, h))
-    (λ why m p h. stands now (Mutator m (View p)) r next lasts (Refuses why 0 0, h))
+    (λ why m p how h. stands now (Mutator m (On p how)) r next lasts (Refuses why 0 0, h))
     (λ why objects count h. stop_left now why objects count r next lasts h)
     (λ why turns objects policy most count h. round_left now why turns objects policy most count r next lasts h (after_step now (Round policy most turns) (Ended (Limit Evacuating)) h.stood lasts h.turned))
     (λ row m p d asks h. by_asked m p (λ x. Misled row now x p r next → Leaves now x r next)
-    (λ from bytes k. stands now (Mutator m (Write p from bytes)) r next lasts (Gives row false, k))
-    (λ from len k. stands now (Mutator m (Read p from len)) r next lasts (Gives row false, k))
-    (λ k. stands now (Mutator m (View p)) r next lasts (Gives row false, k)) d asks h)
+    (λ how k. stands now (Mutator m (On p how)) r next lasts (Gives row false, k)) d asks h)
     c h
 
 pub steps_left : (now : Moment) (step : Step) (r : Reply) (next : Moment) → IsMoment now → Commanded now (Evacuator step) r next → StepLeaves now step r next

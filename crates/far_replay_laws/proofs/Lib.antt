@@ -37,7 +37,6 @@ pub mod MovesTaken
 pub mod OutputLaws
 pub mod PlainReplies
 pub mod PlainRounds
-pub mod PrintedAlike
 pub mod Refusals
 pub mod RoundChosen
 pub mod RoundCounts

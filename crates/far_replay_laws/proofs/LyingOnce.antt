@@ -14,7 +14,7 @@ use Rattle.far_core.proofs.Cells.{unused}
 use Rattle.far_device.specs.Liar.{inverted}
 use Rattle.far_device.specs.declared.liar.Lie.{Lie}
 use Rattle.far_device.specs.declared.liar.Lie.TheVariants.{Never, Short as Shortens, Flip as Inverts}
-use Rattle.far_text.specs.Command.{Book, Command, Device, Evacuator, Fail, Flawed, Flip, Mutator, Read, Short, View, Write}
+use Rattle.far_text.specs.Command.{Book, Command, Device, Evacuator, Fail, Flawed, Flip, Mutator, On, Writes, Short}
 use Rattle.far_text.specs.Written.{AllWriteBytes, WritesBytes}
 use Rattle.far_replay.specs.Answers.{AnsweredBy, CommandedBy, ByDevice, FarAlong, FlawedAtMost, IsFlaw, IsMoment, first_moment, flaws, gives_some, is_true, lie_of, shape_of, Outside, Serves, Refuses, Gives, Lacks}
 use Rattle.far_replay.specs.Commanded.{AsksFor, LiesFar}
@@ -88,22 +88,13 @@ owed_kept now (Some p) q e = by (kept_len (read_of (now.core.cell p))) refl e
     by (Some len) is owes = subst (IsKept now) (same_pointer p q owes) (len, is)
     by None is owes = let odd : None ≡ Some q = owes in absurd cc
 
-inverts_bytes : (bytes : List ℕ) → IsBytes (map inverted bytes)
-inverts_bytes [] k = omega arith
-inverts_bytes (byte ∷ bytes) zero = omega arith
-inverts_bytes (byte ∷ bytes) (suc k) = inverts_bytes bytes k
-
 -- it leaves all that is held
 asks_hold : (m p : ℕ) (c : Command) (s t : State) (held later : FarBytes) → AsksFor m p c → HoldsBy c s t held later → (q : ℕ) → later q ≡ held q
-asks_hold m p (Mutator k (Write q from bytes)) s t held later asks holds = holds
-asks_hold m p (Mutator k (Read q from len)) s t held later asks holds = holds
-asks_hold m p (Mutator k (View q)) s t held later asks holds = holds
+asks_hold m p (Mutator k (On q how)) s t held later asks holds = holds
 asks_hold m p c s t held later asks holds = absurd asks
 
 asks_beside : (now : Moment) (m p : ℕ) (c : Command) (r : Reply) (after : Moment) → AsksFor m p c → LeavesBeside now c r after → AllButObject now.core after.core p
-asks_beside now m p (Mutator k (Write q from bytes)) r after asks h = subst (AllButObject now.core after.core) asks.1 h
-asks_beside now m p (Mutator k (Read q from len)) r after asks h = subst (AllButObject now.core after.core) asks.1 h
-asks_beside now m p (Mutator k (View q)) r after asks h = subst (AllButObject now.core after.core) asks.1 h
+asks_beside now m p (Mutator k (On q how)) r after asks h = subst (AllButObject now.core after.core) asks.1 h
 asks_beside now m p c r after asks h = absurd asks
 
 -- a write leaves nothing to be held
@@ -114,10 +105,9 @@ written_none s t p far leaves len kept = by ((world_of s).viewed p) refl where
   by false unseen = let (n, ds, place, is) = leaves.anew unseen in let odd : None ≡ Some len = sym (ap kept_len is) ∙ kept in cc
 
 written_so : (now : Moment) (m p : ℕ) (c : Command) (r : Reply) (after : Moment) (bytes : List ℕ) → AsksFor m p c → TellsBytes c r bytes → LiesFar now.core p → LeavesMarks now.core c r after.core → IsKept after p → (own : List ℕ) → bytes_made c own ≡ own
-written_so now m p (Mutator k (Write q from new)) r after bytes asks told far leaves (len, kept) =
-    absurd (written_none now.core after.core p far (subst (LeavesWritten now.core after.core) asks.1 (subst (λ x. LeavesMarks now.core (Mutator k (Write q from new)) x after.core) told leaves)) len kept)
-written_so now m p (Mutator k (Read q from count)) r after bytes asks told far leaves kept = λ own. refl
-written_so now m p (Mutator k (View q)) r after bytes asks told far leaves kept = λ own. refl
+written_so now m p (Mutator k (On q (Writes from new))) r after bytes asks told far leaves (len, kept) =
+    absurd (written_none now.core after.core p far (subst (LeavesWritten now.core after.core) asks.1 (subst (λ x. LeavesMarks now.core (Mutator k (On q (Writes from new))) x after.core) told leaves)) len kept)
+written_so now m p (Mutator k (On q how)) r after bytes asks told far leaves kept = λ own. refl
 written_so now m p c r after bytes asks told far leaves kept = absurd asks
 
 -- by what it was told

@@ -28,7 +28,7 @@ use Rattle.far_core.proofs.Cells.{map_mark, object_of-mark}
 use Rattle.far_core.proofs.Marking.{read_mark}
 use Rattle.far_core.specs.world.WorldOf.{object_of}
 use mathlib.Core.Path.{fun_ext}
-use Rattle.far_alone.specs.Dereference.{asked_for, comes_to, has_no_room, sought, sought_of}
+use Rattle.far_alone.specs.Dereference.{asked_for, comes_to, sought, sought_of}
 use Rattle.far_core.proofs.KeepOwner.{hot_read}
 use Rattle.far_core.proofs.Put.{put_both, put_other, put_same}
 use Rattle.far_book.proofs.region.Calls.{put_put}
@@ -39,7 +39,7 @@ use Rattle.far_replay.specs.Alone.{Alone, KnowsBy}
 use Rattle.far_alone.specs.Own.{Own}
 use Rattle.far_replay.specs.Answers.{Answered, AnsweredBy, Commanded, Outside, Serves, Served, IsMoment, IsOutput, shape_of, first_moment, flaws, gives_some, is_true, lie_of, ByDevice, FlawedAtMost, opened}
 use Rattle.far_replay.specs.Commanded.{KeepsFar}
-use Rattle.far_text.specs.Command.{Command, Trace, Nothing, Heap, New, Open, Write, Read, Close, Where, Drop, View, Try, Epoch, Logs, Mutator, Book, Evacuator, Step, Wait, Device as SaidDevice}
+use Rattle.far_text.specs.Command.{Command, Trace, Nothing, Heap, New, Open, On, Use, Writes, Close, Where, Drop, Try, Epoch, Logs, Mutator, Book, Evacuator, Step, Wait, Device as SaidDevice}
 use Rattle.far_text.specs.Grammar.{trace_of}
 use Rattle.far_replay_laws.specs.Headline.{EachTextIsAnswered, HeapsBeginLawful, IsAmple, IsWhole, IsSaidBy, TellsAll, TellsLog}
 use Rattle.far_replay_laws.specs.FromOutside.{NoneLacks}
@@ -51,7 +51,7 @@ use Rattle.far_reply.specs.declared.reply.LogLine.{LogLine}
 use Rattle.far_reply.specs.Reply.{Reply, Pointer, Refused, reply_text}
 use Rattle.far_replay.specs.Events.{turn_events, events_for}
 use Rattle.far_alone.specs.Events.{view_events, new_events}
-use Rattle.far_alone.specs.Objects.{is_range, lowest_cell, object_len, uses, with_range}
+use Rattle.far_alone.specs.Objects.{lowest_cell, uses, with_range}
 use Rattle.far_word.specs.declared.mark.Marks.{Marks}
 use Rattle.far_word.specs.declared.pointer.PtrWord.{PtrWord}
 use Rattle.far_word.specs.declared.pointer.PtrWord.TheVariants.{Near, Far}
@@ -68,7 +68,7 @@ use Rattle.far_replay_laws.proofs.Refusals.{not_halted, turn_is_no_refusal, from
 use Rattle.far_replay.proofs.RoundLeads.{cell_same, same_clear, stays_same, step_stays}
 use Rattle.far_replay.proofs.WithCore.{same_order}
 use Rattle.far_alone.proofs.Spliced.{length-with_range, with_range_before, with_range_inside, with_range_after}
-use Rattle.far_replay.proofs.Turns.{marked_last, room_lacks, room_last, new_tests}
+use Rattle.far_replay.proofs.Turns.{lacks_place, marked_last, new_tests}
 use Rattle.far_alone.proofs.Views.{view_is, view_law, slow_view}
 use Rattle.far_device.specs.declared.liar.Lie.{Lie}
 
@@ -116,9 +116,7 @@ blind_step now step why blind = refl
 
 -- one that comes before any pin leaves all
 none_marked : (now : Moment) (c : Command) (why : Refusal) → ((p : ℕ) → ¬ MayMark c why p) → ¬ MaySee c why → refused_effect now c why ≡ now
-none_marked now (Mutator m (Write p from bytes)) NoRoom none blind = absurd (none p refl)
-none_marked now (Mutator m (Read p from len)) NoRoom none blind = absurd (none p refl)
-none_marked now (Mutator m (View p)) NoRoom none blind = absurd (none p refl)
+none_marked now (Mutator m (On p how)) NoRoom none blind = absurd (none p refl)
 none_marked now (Mutator m (Try p)) (Marked word) none blind = absurd (none p refl)
 none_marked now (Evacuator step) why none blind = blind_step now step why blind
 none_marked now c why none blind = refl
@@ -132,21 +130,13 @@ same_refusal why cause r h e = refusals_alike cause why (sym h ∙ e) where
   refusals_alike : (a b : Refusal) → Refused a ≡ Refused b → a ≡ b
   refusals_alike a b e = cc
 
-write_marks : (why : Refusal) (m p from : ℕ) (bytes : List ℕ) → KeepsFar why → MayMark (Mutator m (Write p from bytes)) why p
-write_marks why m p from bytes h = of_far (λ x. MayMark (Mutator m (Write p from bytes)) x p) why h refl refl
-
-read_marks : (why : Refusal) (m p from len : ℕ) → KeepsFar why → MayMark (Mutator m (Read p from len)) why p
-read_marks why m p from len h = of_far (λ x. MayMark (Mutator m (Read p from len)) x p) why h refl refl
-
-view_marks : (why : Refusal) (m p : ℕ) → KeepsFar why → MayMark (Mutator m (View p)) why p
-view_marks why m p h = of_far (λ x. MayMark (Mutator m (View p)) x p) why h refl refl
+use_marks : (why : Refusal) (m p : ℕ) (how : Use) → KeepsFar why → MayMark (Mutator m (On p how)) why p
+use_marks why m p how h = of_far (λ x. MayMark (Mutator m (On p how)) x p) why h refl refl
 
 pub refused_stays : (now : Moment) (c : Command) (r : Reply) (next : Moment) (why : Refusal) → ((p : ℕ) → ¬ MayMark c why p) → ¬ MaySee c why → Commanded now c r next → r ≡ Refused why → next ≡ now
 refused_stays now c r next why none blind h e = by_outcome now r next (λ d. ((p : ℕ) → ¬ MayMark d why p) → ¬ MaySee d why → next ≡ now)
     (λ d h none blind. served_stays now d r next why none blind h e)
-    (λ cause m p from bytes h none blind. absurd (none p (subst (λ x. MayMark (Mutator m (Write p from bytes)) x p) (same_refusal why cause r h.reply e) (write_marks cause m p from bytes h.cause))))
-    (λ cause m p from len h none blind. absurd (none p (subst (λ x. MayMark (Mutator m (Read p from len)) x p) (same_refusal why cause r h.reply e) (read_marks cause m p from len h.cause))))
-    (λ cause m p h none blind. absurd (none p (subst (λ x. MayMark (Mutator m (View p)) x p) (same_refusal why cause r h.reply e) (view_marks cause m p h.cause))))
+    (λ cause m p how h none blind. absurd (none p (subst (λ x. MayMark (Mutator m (On p how)) x p) (same_refusal why cause r h.reply e) (use_marks cause m p how h.cause))))
     (λ cause objects count h none blind. absurd (not_halted why cause h.progress r h.reply e))
     (λ cause turns objects policy most count h none blind. absurd (not_halted why cause _ r h.reply e))
     (λ row m p d asks h none blind. absurd (h.answered why e))
@@ -257,15 +247,9 @@ stays_sought c s m p may apart law opened ours slow =
     (stays_asked c s m p hot may apart later used (hot_read s law p used) (read_of ((record s { cell = put s.cell p hot }).cell p)))
 
 refused_leaves : (now : Moment) (c : Command) (why : Refusal) → Law now.core → refusal now c ≡ Some why → Stays c why now (refused_effect now c why)
-refused_leaves now (Mutator m (Write p from bytes)) NoRoom law e =
-    let h = room_lacks (nat_lt m now.core.mutators) (is_opened now.core m) (uses now.core m p) (is_range (object_len now.core p) from (length bytes)) (has_no_room now.core m p) e in
-    stays_with (Mutator m (Write p from bytes)) NoRoom now (sought now.core m p) (λ k none. none) (stays_sought (Mutator m (Write p from bytes)) now.core m p refl (λ q other. other) law h.1 h.2 (and_parts (is_slow now.core p) (not (is_some (comes_to (sought now.core m p) p))) h.3).0)
-refused_leaves now (Mutator m (Read p from len)) NoRoom law e =
-    let h = room_lacks (nat_lt m now.core.mutators) (is_opened now.core m) (uses now.core m p) (is_range (object_len now.core p) from len) (has_no_room now.core m p) e in
-    stays_with (Mutator m (Read p from len)) NoRoom now (sought now.core m p) (λ k none. none) (stays_sought (Mutator m (Read p from len)) now.core m p refl (λ q other. other) law h.1 h.2 (and_parts (is_slow now.core p) (not (is_some (comes_to (sought now.core m p) p))) h.3).0)
-refused_leaves now (Mutator m (View p)) NoRoom law e =
-    let h = room_last (nat_lt m now.core.mutators) (is_opened now.core m) (uses now.core m p) (has_no_room now.core m p) e in
-    stays_with (Mutator m (View p)) NoRoom now (sought now.core m p) (λ k none. none) (stays_sought (Mutator m (View p)) now.core m p refl (λ q other. other) law h.1 h.2 (and_parts (is_slow now.core p) (not (is_some (comes_to (sought now.core m p) p))) h.3).0)
+refused_leaves now (Mutator m (On p how)) NoRoom law e =
+    let h = lacks_place now m p how e in
+    stays_with (Mutator m (On p how)) NoRoom now (sought now.core m p) (λ k none. none) (stays_sought (Mutator m (On p how)) now.core m p refl (λ q other. other) law h.0 h.1 (and_parts (is_slow now.core p) (not (is_some (comes_to (sought now.core m p) p))) h.2).0)
 refused_leaves now (Mutator m (Try p)) (Marked word) law e =
     let h = marked_last (nat_lt m now.core.mutators) (is_opened now.core m) (uses now.core m p) (is_slow now.core p) (now.core.cell p) word e in
     stays_with (Mutator m (Try p)) (Marked word) now (with_view now.core p) (λ k none. none) (stays_hot now.core m p word law h.1 h.2 h.3)
@@ -303,14 +287,8 @@ marks_else c why p q may none e = none (subst (MayMark c why) (sym e) may)
 pub refusals_stay : (now : Moment) (c : Command) (r : Reply) (next : Moment) (why : Refusal) → Law now.core → Commanded now c r next → r ≡ Refused why → Stays c why now next
 refusals_stay now c r next why law h e = by_outcome now r next (λ d. Stays d why now next)
     (λ d h. served_refusals now d r next why law h e)
-    (λ cause m p from bytes h. subst (λ x. Stays (Mutator m (Write p from bytes)) x now next) (same_refusal why cause r h.reply e)
-    (tried_stays now m p (now.core.cell p) next (Mutator m (Write p from bytes)) cause (λ q. marks_else (Mutator m (Write p from bytes)) cause p q (write_marks cause m p from bytes h.cause)) (λ k no. no)
-    (served_refusals now (Mutator m (Try p)) (Refused (Marked (now.core.cell p))) next (Marked (now.core.cell p)) law h.tried refl)))
-    (λ cause m p from len h. subst (λ x. Stays (Mutator m (Read p from len)) x now next) (same_refusal why cause r h.reply e)
-    (tried_stays now m p (now.core.cell p) next (Mutator m (Read p from len)) cause (λ q. marks_else (Mutator m (Read p from len)) cause p q (read_marks cause m p from len h.cause)) (λ k no. no)
-    (served_refusals now (Mutator m (Try p)) (Refused (Marked (now.core.cell p))) next (Marked (now.core.cell p)) law h.tried refl)))
-    (λ cause m p h. subst (λ x. Stays (Mutator m (View p)) x now next) (same_refusal why cause r h.reply e)
-    (tried_stays now m p (now.core.cell p) next (Mutator m (View p)) cause (λ q. marks_else (Mutator m (View p)) cause p q (view_marks cause m p h.cause)) (λ k no. no)
+    (λ cause m p how h. subst (λ x. Stays (Mutator m (On p how)) x now next) (same_refusal why cause r h.reply e)
+    (tried_stays now m p (now.core.cell p) next (Mutator m (On p how)) cause (λ q. marks_else (Mutator m (On p how)) cause p q (use_marks cause m p how h.cause)) (λ k no. no)
     (served_refusals now (Mutator m (Try p)) (Refused (Marked (now.core.cell p))) next (Marked (now.core.cell p)) law h.tried refl)))
     (λ cause objects count h. absurd (not_halted why cause h.progress r h.reply e))
     (λ cause turns objects policy most count h. absurd (not_halted why cause _ r h.reply e))
@@ -331,12 +309,11 @@ past s m k e h = lt-leb (suc k) s.mutators (omega (arith, e, h))
 refuses_unknown : (now : Moment) (c : Command) (m : ℕ) → IsSaidBy m c → now.core.mutators ≤ m → reply_to now c ≡ Refused Range
 refuses_unknown now (Mutator k (New len ds)) m e h = first_holds now (Mutator k (New len ds)) (not (nat_lt k now.core.mutators && nat_lt ds 256)) _ refl (ap (λ b. not (b && nat_lt ds 256)) (past now.core m k e h))
 refuses_unknown now (Mutator k Open) m e h = first_holds now (Mutator k Open) (not (nat_lt k now.core.mutators)) _ refl (ap not (past now.core m k e h))
-refuses_unknown now (Mutator k (Write p from bytes)) m e h = first_holds now (Mutator k (Write p from bytes)) (not (nat_lt k now.core.mutators)) _ refl (ap not (past now.core m k e h))
-refuses_unknown now (Mutator k (Read p from len)) m e h = first_holds now (Mutator k (Read p from len)) (not (nat_lt k now.core.mutators)) _ refl (ap not (past now.core m k e h))
+refuses_unknown now (Mutator k (On p (Writes from bytes))) m e h = first_holds now (Mutator k (On p (Writes from bytes))) (not (nat_lt k now.core.mutators)) _ refl (ap not (past now.core m k e h))
+refuses_unknown now (Mutator k (On p how)) m e h = first_holds now (Mutator k (On p how)) (not (nat_lt k now.core.mutators)) _ refl (ap not (past now.core m k e h))
 refuses_unknown now (Mutator k Close) m e h = first_holds now (Mutator k Close) (not (nat_lt k now.core.mutators)) _ refl (ap not (past now.core m k e h))
 refuses_unknown now (Mutator k (Where p)) m e h = first_holds now (Mutator k (Where p)) (not (nat_lt k now.core.mutators)) _ refl (ap not (past now.core m k e h))
 refuses_unknown now (Mutator k (Drop p)) m e h = first_holds now (Mutator k (Drop p)) (not (nat_lt k now.core.mutators)) _ refl (ap not (past now.core m k e h))
-refuses_unknown now (Mutator k (View p)) m e h = first_holds now (Mutator k (View p)) (not (nat_lt k now.core.mutators)) _ refl (ap not (past now.core m k e h))
 refuses_unknown now (Mutator k (Try p)) m e h = first_holds now (Mutator k (Try p)) (not (nat_lt k now.core.mutators)) _ refl (ap not (past now.core m k e h))
 refuses_unknown now (Mutator k Epoch) m e h = first_holds now (Mutator k Epoch) (not (nat_lt k now.core.mutators)) _ refl (ap not (past now.core m k e h))
 refuses_unknown now _ m e h = absurd e
@@ -348,9 +325,7 @@ unknown_allowed now c m e h none =
 pub unknown_refused : (now : Moment) (c : Command) (r : Reply) (next : Moment) (m : ℕ) → IsSaidBy m c → now.core.mutators ≤ m → Commanded now c r next → r ≡ Refused Range
 unknown_refused now c r next m e h k = by_outcome now r next (λ d. IsSaidBy m d → r ≡ Refused Range)
     (λ d k e. k.reply ∙ refuses_unknown now d m e h)
-    (λ cause n p from bytes k e. absurd (unknown_allowed now (Mutator n (Write p from bytes)) m e h k.allowed))
-    (λ cause n p from len k e. absurd (unknown_allowed now (Mutator n (Read p from len)) m e h k.allowed))
-    (λ cause n p k e. absurd (unknown_allowed now (Mutator n (View p)) m e h k.allowed))
+    (λ cause n p how k e. absurd (unknown_allowed now (Mutator n (On p how)) m e h k.allowed))
     (λ cause objects count k e. absurd e)
     (λ cause turns objects policy most count k e. absurd e)
     (λ row n p d asks k e. k.served.reply ∙ refuses_unknown (as_if_stored now p row) d m e h)

@@ -27,7 +27,7 @@ use Rattle.far_replay.specs.Answers.{Answered, Commanded, Served}
 use Rattle.far_replay.specs.Commanded.{KeepsFar}
 use Rattle.far_replay.proofs.Outcomes.{by_outcome}
 use Rattle.far_replay.specs.Audit.{counts_of, lies_near, lies_far, bytes_by_log}
-use Rattle.far_text.specs.Command.{Command, New, Write, Read, Where, Drop, View, Try, Epoch, Logs, Log, Audit, Mutator, Book, Evacuator, Evacuate}
+use Rattle.far_text.specs.Command.{Command, New, On, Reads, Views, Where, Drop, Try, Epoch, Logs, Log, Audit, Mutator, Book, Evacuator, Evacuate}
 use Rattle.far_replay_laws.specs.Headline.{IsToldInFull, IsLineToldInFull, AreToldInFull, IsRefusalToldInFull}
 use Rattle.far_alone.specs.Dereference.{dereferenced}
 use Rattle.far_replay.specs.Moment.{Moment, as_if_stored}
@@ -100,10 +100,9 @@ plain_counts s law =
 -- the word that a cause carries is a cell's, and a log is one that the command names
 plain_causes : (now : Moment) (c : Command) → Law now.core → WritesBytes c → EachCause IsRefusalToldInFull (causes now c)
 plain_causes now (Mutator m (New len ds)) law bytes = (tt, (tt, (tt, (tt, tt))))
-plain_causes now (Mutator m (Write p from new)) law bytes = (tt, (tt, (tt, (tt, (tt, tt)))))
-plain_causes now (Mutator m (Read p from len)) law bytes = (tt, (tt, (tt, (tt, (tt, tt)))))
+plain_causes now (Mutator m (On p Views)) law bytes = (tt, (tt, (tt, (tt, tt))))
+plain_causes now (Mutator m (On p how)) law bytes = (tt, (tt, (tt, (tt, (tt, tt)))))
 plain_causes now (Mutator m (Drop p)) law bytes = (tt, (tt, (tt, tt)))
-plain_causes now (Mutator m (View p)) law bytes = (tt, (tt, (tt, (tt, tt))))
 plain_causes now (Mutator m (Try p)) law bytes = (tt, (tt, (tt, ((law.cells.cell_read p).0, tt))))
 plain_causes now (Book Logs) law bytes = tt
 plain_causes now (Book (Log l)) law bytes = (tt, tt)
@@ -116,7 +115,7 @@ plain_turn : (now : Moment) (c : Command) → Law now.core → MomentLaw now →
 plain_turn now (Mutator m (New len ds)) law moment alone e =
     let parts = new_tests now.core m len ds e in
     plain_pointer now.core m (lowest_cell now.core m) law (is_structure now.core m ds (ap not parts.0)).0 refl
-plain_turn now (Mutator m (Read p from len)) law moment alone e = plain_data (dereferenced now.core m p) p from len
+plain_turn now (Mutator m (On p (Reads from len))) law moment alone e = plain_data (dereferenced now.core m p) p from len
 plain_turn now (Mutator m (Where p)) law moment alone e = plain_home (read_of (now.core.cell p)) (λ v is. (read_says (now.core.cell p) v (law.cells.cell_read p).0 is).0)
 plain_turn now (Mutator m Epoch) law moment alone e = omega (arith, law.scopes.epoch_below)
 plain_turn now (Book Logs) law moment alone e = plain_logs now law
@@ -143,9 +142,7 @@ served_plain now c r next lasts bytes h = subst IsToldInFull (sym h.reply) (plai
 outcome_plain : (now : Moment) (c : Command) (r : Reply) (next : Moment) → Lasts now → WritesBytes c → Commanded now c r next → IsToldInFull r
 outcome_plain now c r next lasts bytes h = by_outcome now r next (λ d. WritesBytes d → IsToldInFull r)
     (λ d h bytes. served_plain now d r next lasts bytes h)
-    (λ why m p from new h _. subst IsToldInFull (sym h.reply) (far_told why h.cause))
-    (λ why m p from len h _. subst IsToldInFull (sym h.reply) (far_told why h.cause))
-    (λ why m p h _. subst IsToldInFull (sym h.reply) (far_told why h.cause))
+    (λ why m p how h _. subst IsToldInFull (sym h.reply) (far_told why h.cause))
     (λ why objects count h _. subst IsToldInFull (sym h.reply) (h.cause, served_plain now (Evacuator (Evacuate objects)) (Evacuated h.progress) next lasts tt h.left, h.unfinished))
     (λ why turns objects policy most count h bytes.
     subst IsToldInFull (sym h.reply) (h.cause, plain_stop now lasts.law lasts.round lasts.alone policy most turns h.stood (stood_so now policy most turns h.stood h.turned) objects h.progress next (left_some h.stood objects h.progress next h.left h.unfinished), refl))

@@ -18,7 +18,7 @@ use Rattle.far_word.specs.declared.refused.Refused.TheVariants.{Damaged, Device,
 use Rattle.far_replay.specs.Answers.{Commanded, Served}
 use Rattle.far_replay.specs.Commanded.{KeepsFar, LiesFar}
 use Rattle.far_replay.proofs.Outcomes.{by_outcome}
-use Rattle.far_text.specs.Command.{Command, New, Write, Read, Where, Drop, View, Try, Logs, Log, Audit, Mutator, Book, Evacuator, Step, By, Script, Select, Wait, Round}
+use Rattle.far_text.specs.Command.{Command, New, On, Reads, Views, Where, Drop, Try, Logs, Log, Audit, Mutator, Book, Evacuator, Step, By, Script, Select, Wait, Round}
 use Rattle.far_replay_laws.specs.Headline.{IsAtHandFor, MayRefuse}
 use Rattle.far_reply.specs.Reply.{Reply, Refused, Halted}
 use Rattle.far_alone.specs.Dereference.{has_no_room}
@@ -94,10 +94,9 @@ step_listed now _ = ((λ _. tt), λ _. tt)
 -- the causes of each command are those that it may be refused for, where its object is at hand
 causes_listed : (now : Moment) (c : Command) → Law now.core → IsAtHandFor now c → EachFirst (MayRefuse c) (causes now c)
 causes_listed now (Mutator m (New len ds)) law hand = ((λ _. tt), λ _. ((λ _. tt), λ _. ((λ _. tt), λ _. ((λ _. tt), λ _. tt))))
-causes_listed now (Mutator m (Write p from bytes)) law hand = ((λ _. tt), λ _. ((λ _. tt), λ _. ((λ _. tt), λ used. ((λ _. tt), λ _. ((λ full. absurd (true≢false (sym full ∙ room_at now.core m p law hand used))), λ _. tt)))))
-causes_listed now (Mutator m (Read p from len)) law hand = ((λ _. tt), λ _. ((λ _. tt), λ _. ((λ _. tt), λ used. ((λ _. tt), λ _. ((λ full. absurd (true≢false (sym full ∙ room_at now.core m p law hand used))), λ _. tt)))))
+causes_listed now (Mutator m (On p Views)) law hand = ((λ _. tt), λ _. ((λ _. tt), λ _. ((λ _. tt), λ used. ((λ full. absurd (true≢false (sym full ∙ room_at now.core m p law hand used))), λ _. tt))))
+causes_listed now (Mutator m (On p how)) law hand = ((λ _. tt), λ _. ((λ _. tt), λ _. ((λ _. tt), λ used. ((λ _. tt), λ _. ((λ full. absurd (true≢false (sym full ∙ room_at now.core m p law hand used))), λ _. tt)))))
 causes_listed now (Mutator m (Drop p)) law hand = ((λ _. tt), λ _. ((λ _. tt), λ _. ((λ _. tt), λ _. tt)))
-causes_listed now (Mutator m (View p)) law hand = ((λ _. tt), λ _. ((λ _. tt), λ _. ((λ _. tt), λ used. ((λ full. absurd (true≢false (sym full ∙ room_at now.core m p law hand used))), λ _. tt))))
 causes_listed now (Mutator m (Try p)) law hand = ((λ _. tt), λ _. ((λ _. tt), λ _. ((λ _. tt), λ used. ((λ slow. absurd (true≢false (sym slow ∙ fast_at now.core m p law hand used))), λ _. tt))))
 causes_listed now (Book Logs) law hand = tt
 causes_listed now (Book (Log l)) law hand = ((λ _. tt), λ _. tt)
@@ -117,6 +116,7 @@ home_is_no_refusal (Some home) why e = cc
 pub turn_is_no_refusal : (now : Moment) (c : Command) (why : Refusal) → turn_reply now c ≢ Refused why
 turn_is_no_refusal now (Mutator m (New len ds)) why e = pointer_is_no_refusal (lowest_cell now.core m) why e
 turn_is_no_refusal now (Mutator m (Where p)) why e = home_is_no_refusal (home_of (read_of (now.core.cell p))) why e
+turn_is_no_refusal now (Mutator m (On p (Reads from len))) why e = cc
 turn_is_no_refusal now (Book Logs) why e = cc
 turn_is_no_refusal now (Evacuator (Select choice most)) why e = cc
 turn_is_no_refusal now _ why e = cc
@@ -142,9 +142,7 @@ not_halted why cause progress r h e = let odd : Halted cause progress ≡ Refuse
 pub near_refusals : (now : Moment) (c : Command) (r : Reply) (next : Moment) (why : Refusal) → Law now.core → IsAtHandFor now c → Commanded now c r next → r ≡ Refused why → MayRefuse c why
 near_refusals now c r next why law hand h e = by_outcome now r next (λ d. IsAtHandFor now d → MayRefuse d why)
     (λ d h hand. served_near now d r next why law hand h e)
-    (λ cause m p from bytes h hand. absurd (far_away now.core p h.far hand))
-    (λ cause m p from len h hand. absurd (far_away now.core p h.far hand))
-    (λ cause m p h hand. absurd (far_away now.core p h.far hand))
+    (λ cause m p how h hand. absurd (far_away now.core p h.far hand))
     (λ cause objects count h hand. absurd (not_halted why cause h.progress r h.reply e))
     (λ cause turns objects policy most count h hand. absurd (not_halted why cause _ r h.reply e))
     (λ row m p d asks h hand. absurd (h.answered why e))

@@ -1,5 +1,5 @@
 -- Each command that is told by events leaves the sealed logs: nothing comes to lie there, and what lies there has EVAC where it had it.
-use Rattle.std.proofs.Common.{◌≡◌, ℕ, ◌+◌, ◌*◌, ◌/◌, ◌^◌, ◌<◌, ◌≤◌, ◌&&◌, Bool, true, false, not, cond, nat_eq, nat_lt, nat_le, Option, Some, None, is_some, List, length, bit_or, arith, ap, sym, refl, ◌∙◌, subst}
+use Rattle.std.proofs.Common.{◌≡◌, ℕ, ◌+◌, ◌*◌, ◌/◌, ◌^◌, ◌<◌, ◌≤◌, ◌&&◌, Bool, true, false, not, cond, nat_eq, nat_lt, nat_le, Option, Some, None, is_some, List, bit_or, arith, ap, sym, refl, ◌∙◌, subst}
 use Rattle.std.proofs.lemmas.Bool.{and_parts, cond_both, false≢true, not-false}
 use Rattle.far_core.proofs.Bounds.{some_of}
 use Rattle.std.proofs.lemmas.Bool.Decides.{nat_tests}
@@ -29,20 +29,20 @@ use Rattle.far_book.specs.book.SealedLogs.{KeepsSealed}
 use Rattle.far_book.specs.book.Fetching.{far_len}
 use Rattle.far_book.proofs.region.Owns.{own_law}
 use Rattle.far_book.proofs.region.SealedKept.{one_cell, sealed_logs_kept}
-use Rattle.far_text.specs.Command.{Command, New, Open, Write, Read, Close, Drop, View, Try, Epoch, Mutator, Evacuator}
+use Rattle.far_text.specs.Command.{Command, New, Open, On, Writes, Close, Drop, Try, Epoch, Mutator, Evacuator}
 use Rattle.far_alone.specs.Dereference.{come, come_of, comes_to, comes_to_of, dereferenced, has_no_room, sought, sought_of}
 use Rattle.far_alone.specs.Effects.{is_slow, with_data, with_epoch, with_object, with_scope, with_view, without_object}
 use Rattle.far_replay.specs.Events.{IsNoStep}
 use Rattle.far_alone.specs.Events.{come_events, view_events}
 use Rattle.far_replay.specs.Moment.{Moment}
-use Rattle.far_alone.specs.Objects.{is_range, lowest_cell, object_len, uses}
+use Rattle.far_alone.specs.Objects.{lowest_cell, uses}
 use Rattle.far_replay.specs.Turn.{effect, refusal, refused_effect, turn_effect, unless, with_new}
 use Rattle.far_replay.proofs.Brought.{MayBring, brought}
 use Rattle.far_replay.proofs.Dereferences.{derefs, sought_law, sought_may, view_leads}
 use Rattle.far_alone.proofs.Drops.{drop_is, unheld_is}
 use Rattle.far_alone.proofs.Leading.{leads_law}
 use Rattle.far_alone.proofs.Lowest.{lowest_cell_is}
-use Rattle.far_replay.proofs.Turns.{five, four, marked_last, new_sizes, room_lacks, room_last, three, tried}
+use Rattle.far_replay.proofs.Turns.{four, lacks_place, marked_last, may_reach, new_sizes, three, tried}
 
 -- ---- what leaves them
 pub sealed_same : (s t : State) → t.kind ≡ s.kind → t.tail ≡ s.tail → t.starts ≡ s.starts → t.cell ≡ s.cell → t.round ≡ s.round → t.clear ≡ s.clear → t.epoch ≡ s.epoch → t.mutators ≡ s.mutators → KeepsSealed s t
@@ -210,23 +210,18 @@ turn_sealed now (Mutator m (New len ds)) told law e =
     let h = four (nat_lt m s.mutators && nat_lt ds 256) (nat_lt 0 len && nat_le len LONGEST) (is_some (lowest_cell s m)) (is_some (room s (size_of len) true)) Range Length NoPointer NoRoom e in
     new_at s m len ds (lowest_cell s m) (room s (size_of len) true) law h.0 h.1 refl refl
 turn_sealed now (Mutator m Open) told law e = sealed_same now.core (with_scope now.core m) refl refl refl refl refl refl refl refl
-turn_sealed now (Mutator m (Write p from bytes)) told law e =
+turn_sealed now (Mutator m (On p (Writes from bytes))) told law e =
     let s : State = now.core in
-    let h = five (nat_lt m s.mutators) (is_opened s m) (uses s m p) (is_range (object_len s p) from (length bytes)) (has_no_room s m p) e in
-    writes_sealed s m p law h.1 h.2 from bytes h.4
-turn_sealed now (Mutator m (Read p from len)) told law e =
-    let s : State = now.core in
-    let h = five (nat_lt m s.mutators) (is_opened s m) (uses s m p) (is_range (object_len s p) from len) (has_no_room s m p) e in
-    derefs_sealed s m p law h.1 h.2 h.4
+    let h = may_reach now m p (Writes from bytes) e in
+    writes_sealed s m p law h.0 h.1 from bytes h.2
+turn_sealed now (Mutator m (On p how)) told law e =
+    let h = may_reach now m p how e in
+    derefs_sealed now.core m p law h.0 h.1 h.2
 turn_sealed now (Mutator m Close) told law e = sealed_same now.core (after_close now.core m) refl refl refl refl refl refl refl refl
 turn_sealed now (Mutator m (Drop p)) told law e =
     let s : State = now.core in
     let h = three (nat_lt m s.mutators) (uses s m p) (is_some (s.held p)) Range NotHeld Held e in
     drop_sealed s m p law (grind (arith, nat_tests, h.0)) h.1 (unheld_is (s.held p) h.2)
-turn_sealed now (Mutator m (View p)) told law e =
-    let s : State = now.core in
-    let h = tried (nat_lt m s.mutators) (is_opened s m) (uses s m p) (has_no_room s m p) Range Closed NotHeld NoRoom e in
-    derefs_sealed s m p law h.1 h.2 h.3
 turn_sealed now (Mutator m (Try p)) told law e =
     let s : State = now.core in
     let h = tried (nat_lt m s.mutators) (is_opened s m) (uses s m p) (is_slow s p) Range Closed NotHeld (Marked (s.cell p)) e in
@@ -237,15 +232,9 @@ turn_sealed now _ told law e = sealed_none now.core
 
 -- ---- and each that is
 refused_sealed : (now : Moment) (c : Command) (why : Refusal) → IsNoStep c → Law now.core → refusal now c ≡ Some why → KeepsSealed now.core (refused_effect now c why).core
-refused_sealed now (Mutator m (Write p from bytes)) NoRoom told law e =
-    let h = room_lacks (nat_lt m now.core.mutators) (is_opened now.core m) (uses now.core m p) (is_range (object_len now.core p) from (length bytes)) (has_no_room now.core m p) e in
-    sought_sealed now.core m p law h.1 h.2
-refused_sealed now (Mutator m (Read p from len)) NoRoom told law e =
-    let h = room_lacks (nat_lt m now.core.mutators) (is_opened now.core m) (uses now.core m p) (is_range (object_len now.core p) from len) (has_no_room now.core m p) e in
-    sought_sealed now.core m p law h.1 h.2
-refused_sealed now (Mutator m (View p)) NoRoom told law e =
-    let h = room_last (nat_lt m now.core.mutators) (is_opened now.core m) (uses now.core m p) (has_no_room now.core m p) e in
-    sought_sealed now.core m p law h.1 h.2
+refused_sealed now (Mutator m (On p how)) NoRoom told law e =
+    let h = lacks_place now m p how e in
+    sought_sealed now.core m p law h.0 h.1
 refused_sealed now (Mutator m (Try p)) (Marked word) told law e =
     let h = marked_last (nat_lt m now.core.mutators) (is_opened now.core m) (uses now.core m p) (is_slow now.core p) (now.core.cell p) word e in
     view_sealed now.core p law (live now.core m p law h.1 h.2)

@@ -75,9 +75,7 @@ stands_as_if now later p row x = record {
 pub stands : (now : Moment) (c : Command) (r : Reply) (later : Moment) → Lasts now → Commanded now c r later → Stands now c later
 stands now c r later lasts h = by_outcome now r later (λ d. Stands now d later)
     (λ d h. served_stands now d r later lasts h)
-    (λ why m p from bytes h. served_stands now (Mutator m (Try p)) (Refused (Marked (now.core.cell p))) later lasts h.tried)
-    (λ why m p from len h. served_stands now (Mutator m (Try p)) (Refused (Marked (now.core.cell p))) later lasts h.tried)
-    (λ why m p h. served_stands now (Mutator m (Try p)) (Refused (Marked (now.core.cell p))) later lasts h.tried)
+    (λ why m p how h. served_stands now (Mutator m (Try p)) (Refused (Marked (now.core.cell p))) later lasts h.tried)
     (λ why objects count h. tt)
     (λ why turns objects policy most count h. tt)
     (λ row m p d asks h. as_misled row now r later m p (λ now c r later. Stands now c later) (λ from bytes. stands_as_if now later p row) (λ from len bytes. stands_as_if now later p row) (stands_as_if now later p row)

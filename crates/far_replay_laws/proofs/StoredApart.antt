@@ -30,7 +30,7 @@ use Rattle.far_core.specs.state.State.{State}
 use Rattle.far_core.proofs.Copied.{copied_same}
 use Rattle.far_core.proofs.Cells.{map_mark}
 use Rattle.far_core.proofs.Leaving.{events_leave}
-use Rattle.far_text.specs.Command.{Command}
+use Rattle.far_text.specs.Command.{Command, Mutator, On, Use, Reads, Writes, Views}
 use Rattle.std.specs.List.{AllByRecursion as Each}
 use Rattle.far_alone.proofs.Each.{Each-append, Each-row}
 use Rattle.far_replay.specs.Commanded.{AsksFor, LiesFar}
@@ -223,17 +223,20 @@ soils_none s m p = cond_both (s.soiled p) [] (Soils m p ∷ []) (Each StoresNone
 stores_none : (m p first count : ℕ) (bytes : List ℕ) → Each StoresNone (store_events m p first count bytes)
 stores_none m p first count bytes = Each-row StoresNone (λ i. Stores m p i (packed_word bytes i)) first count (λ i _. tt)
 
-turn_none : (now : Moment) (m p : ℕ) (c : Command) → AsksFor m p c → Law now.core → is_opened now.core m ≡ true → uses now.core m p ≡ true → LiesFar now.core p → Each StoresNone (turn_events now c)
-turn_none now m p c asks law opened ours far = by_asked m p (λ d. Each StoresNone (turn_events now d))
-    (λ from bytes.
+use_none : (now : Moment) (m p : ℕ) → Law now.core → is_opened now.core m ≡ true → uses now.core m p ≡ true → LiesFar now.core p → (how : Use) → Each StoresNone (turn_events now (Mutator m (On p how)))
+use_none now m p law opened ours far (Writes from bytes) =
     let new : List ℕ = with_range (data_of (dereferenced now.core m p) p) from bytes in
     let part : List Event = part_events m p from (length bytes) in
     let stored : List Event = store_events m p (first_word from) (words_touched from (length bytes)) new in
     let soil : List Event = soil_events (dereferenced now.core m p) m p in
     Each-append StoresNone (dereference_events now.core m p ++ soil ++ part) stored
-    (Each-append StoresNone (dereference_events now.core m p ++ soil) part (Each-append StoresNone (dereference_events now.core m p) soil (deref_none now.core m p law opened ours far) (soils_none (dereferenced now.core m p) m p)) (parts_none m p from (length bytes))) (stores_none m p (first_word from) (words_touched from (length bytes)) new))
-    (λ from len. Each-append StoresNone (dereference_events now.core m p) (load_events m p (first_word from) (words_touched from len)) (deref_none now.core m p law opened ours far) (loads_none m p (first_word from) (words_touched from len)))
-    (deref_none now.core m p law opened ours far) c asks
+    (Each-append StoresNone (dereference_events now.core m p ++ soil) part (Each-append StoresNone (dereference_events now.core m p) soil (deref_none now.core m p law opened ours far) (soils_none (dereferenced now.core m p) m p)) (parts_none m p from (length bytes))) (stores_none m p (first_word from) (words_touched from (length bytes)) new)
+use_none now m p law opened ours far (Reads from len) =
+    Each-append StoresNone (dereference_events now.core m p) (load_events m p (first_word from) (words_touched from len)) (deref_none now.core m p law opened ours far) (loads_none m p (first_word from) (words_touched from len))
+use_none now m p law opened ours far Views = deref_none now.core m p law opened ours far
+
+turn_none : (now : Moment) (m p : ℕ) (c : Command) → AsksFor m p c → Law now.core → is_opened now.core m ≡ true → uses now.core m p ≡ true → LiesFar now.core p → Each StoresNone (turn_events now c)
+turn_none now m p c asks law opened ours far = by_asked m p (λ d. Each StoresNone (turn_events now d)) (use_none now m p law opened ours far) c asks
 
 pub asked_none : (now : Moment) (m p : ℕ) (c : Command) → AsksFor m p c → Law now.core → is_opened now.core m ≡ true → uses now.core m p ≡ true → LiesFar now.core p → refusal now c ≡ None → Each StoresNone (events_for now c)
 asked_none now m p c asks law opened ours far allowed =

@@ -1,5 +1,5 @@
 -- Which shapes a heap line may say, and what each command takes of the logs.
-use Rattle.std.proofs.Common.{List, ◌≡◌, ◌≤◌, ◌<◌, ◌^◌, ℕ, ◌+◌, ◌-◌, true, false, not, nat_lt, length, is_some, sym, refl, ap, ◌∙◌, subst, arith, Option, Some, None, Bool}
+use Rattle.std.proofs.Common.{◌≡◌, ◌≤◌, ◌<◌, ◌^◌, ℕ, ◌+◌, ◌-◌, true, false, not, nat_lt, is_some, sym, refl, ap, ◌∙◌, subst, arith, Option, Some, None, Bool}
 use Rattle.std.specs.Prelude.{◌↔◌}
 use Rattle.std.proofs.lemmas.Bool.{and_parts, false≢true, ltb-true, true≢false}
 use Rattle.std.proofs.lemmas.Bool.Decides.{nat_tests}
@@ -33,23 +33,23 @@ use Rattle.far_replay.specs.Answers.{Commanded, Served, Unbrought, IsMoment, sha
 use Rattle.far_replay.specs.Commanded.{KeepsFar}
 use Rattle.far_replay.proofs.Outcomes.{by_outcome}
 use Rattle.far_replay_laws.proofs.Stops.{left_some, stood_so}
-use Rattle.far_text.specs.Command.{Command, New, Open, Write, Read, Close, Where, Drop, View, Try, Epoch, Mutator, Book, Evacuator, Evacuate, Round}
+use Rattle.far_text.specs.Command.{Command, New, Open, On, Use, Writes, Close, Where, Drop, Try, Epoch, Mutator, Book, Evacuator, Evacuate, Round}
 use Rattle.far_alone.specs.Dereference.{comes_to, dereferenced, has_no_room, sought}
 use Rattle.far_alone.specs.Effects.{is_slow, with_data, with_epoch, with_object, with_scope, without_object}
 use Rattle.far_replay_laws.specs.Headline.{CommandTakes, TakesRoom}
 use Rattle.far_replay.specs.Taking.{BytesMove, DereferenceLacks, DropTakes, TakesNone, BringTakes, DereferenceTakes, TakesSpan}
 use Rattle.far_replay.specs.Moment.{Moment, moment_of, as_if_stored, with_stored}
-use Rattle.far_alone.specs.Objects.{data_of, is_range, lowest_cell, object_len, uses, with_range}
+use Rattle.far_alone.specs.Objects.{data_of, lowest_cell, uses, with_range}
 use Rattle.far_reply.specs.Reply.{Reply, Evacuated, Refused}
 use Rattle.far_replay.specs.Turn.{refusal, unless, turn_effect, refused_effect, turn_reply, reply_to, pointer_reply, with_new}
 use Rattle.far_alone.proofs.Drops.{drop_is, unheld_is}
-use Rattle.far_replay.proofs.Dereferences.{derefs, sought_lacks}
+use Rattle.far_replay.proofs.Dereferences.{sought_lacks}
 use Rattle.far_replay.proofs.Lasting.{moment_lasts, misled_from}
 use Rattle.far_replay.proofs.LogBytes.{bytes_move, celled_takes, headed_takes, move_then, names_at, names_one, none_taken, worded_takes}
 use Rattle.far_replay_laws.proofs.MovesTaken.{step_takes, stop_takes}
 use Rattle.far_alone.proofs.Soiling.{soiled_reads}
 use Rattle.far_replay.proofs.TakingView.{deref_more, view_takes}
-use Rattle.far_replay.proofs.Turns.{access_fact, led, marked_last, new_object_is, new_parts, new_tests, room_lacks, room_last, three, tried}
+use Rattle.far_replay.proofs.Turns.{lacks_place, marked_last, new_object_is, new_parts, new_tests, reached, three, tried}
 use Rattle.far_alone.proofs.Views.{Viewed}
 use Rattle.far_replay_laws.proofs.Refusals.{of_far}
 use Rattle.far_replay_laws.proofs.Misleading.{as_misled}
@@ -134,28 +134,19 @@ takes now (Mutator m (New len ds)) None law moment alone e = new_takes now.core 
     (parts.2, parts.3))
     (λ none p place cell found. new_taken now.core m len ds p place law (subst (λ r. refusal now (Mutator m (New len ds)) ≡ r) none e) cell found)
 takes now (Mutator m Open) None law moment alone e = celled_takes now.core (with_scope now.core m) refl refl refl refl
-takes now (Mutator m (Write p from bytes)) None law moment alone e =
-    let at = led now.core m p from (length bytes) law (access_fact now.core m p from (length bytes) e) in
+takes now (Mutator m (On p (Writes from bytes))) None law moment alone e =
+    let at = reached now m p (Writes from bytes) law e in
     let t : State = dereferenced now.core m p in
     deref_more now.core t (with_data t p from bytes) p (write_takes t m p at.law at.view (packed_word (with_range (data_of t p) from bytes))) at.takes
-takes now (Mutator m (Write p from bytes)) (Some NoRoom) law moment alone e =
-    let h = room_lacks (nat_lt m now.core.mutators) (is_opened now.core m) (uses now.core m p) (is_range (object_len now.core p) from (length bytes)) (has_no_room now.core m p) e in
-    none_takes now.core m p law h.1 h.2 h.3
-takes now (Mutator m (Read p from len)) None law moment alone e = (led now.core m p from len law (access_fact now.core m p from len e)).takes
-takes now (Mutator m (Read p from len)) (Some NoRoom) law moment alone e =
-    let h = room_lacks (nat_lt m now.core.mutators) (is_opened now.core m) (uses now.core m p) (is_range (object_len now.core p) from len) (has_no_room now.core m p) e in
-    none_takes now.core m p law h.1 h.2 h.3
+takes now (Mutator m (On p how)) None law moment alone e = (reached now m p how law e).takes
+takes now (Mutator m (On p how)) (Some NoRoom) law moment alone e =
+    let h = lacks_place now m p how e in
+    none_takes now.core m p law h.0 h.1 h.2
 takes now (Mutator m Close) None law moment alone e = celled_takes now.core (after_close now.core m) refl refl refl refl
 takes now (Mutator m (Where p)) None law moment alone e = none_taken now.core
 takes now (Mutator m (Drop p)) None law moment alone e =
     let h = three (nat_lt m now.core.mutators) (uses now.core m p) (is_some (now.core.held p)) Range NotHeld Held e in
     drop_takes now.core m p law (ltb-true m now.core.mutators h.0) h.1 (unheld_is (now.core.held p) h.2) (read_of (now.core.cell p)) refl
-takes now (Mutator m (View p)) None law moment alone e =
-    let h = tried (nat_lt m now.core.mutators) (is_opened now.core m) (uses now.core m p) (has_no_room now.core m p) Range Closed NotHeld NoRoom e in
-    (derefs now.core m p law h.1 h.2 h.3).takes
-takes now (Mutator m (View p)) (Some NoRoom) law moment alone e =
-    let h = room_last (nat_lt m now.core.mutators) (is_opened now.core m) (uses now.core m p) (has_no_room now.core m p) e in
-    none_takes now.core m p law h.1 h.2 h.3
 takes now (Mutator m (Try p)) None law moment alone e =
     let h = tried (nat_lt m now.core.mutators) (is_opened now.core m) (uses now.core m p) (is_slow now.core p) Range Closed NotHeld (Marked (now.core.cell p)) e in
     view_takes now.core m p law h.1 h.2
@@ -177,14 +168,8 @@ served_take now c r next is h =
 far_takes : (now : Moment) (c : Command) (m p : ℕ) (why : Refusal) (r : Reply) (next : Moment) → IsMoment now → Unbrought why now c m p r next → TakesNone now.core next.core
 far_takes now c m p why r next is h = served_take now (Mutator m (Try p)) (Refused (Marked (now.core.cell p))) next is h.tried
 
-write_takes_none : (now next : Moment) (m p from : ℕ) (bytes : List ℕ) (why : Refusal) → KeepsFar why → TakesNone now.core next.core → TakesRoom now (Mutator m (Write p from bytes)) (Refused why) next
-write_takes_none now next m p from bytes why h none = of_far (λ x. TakesRoom now (Mutator m (Write p from bytes)) (Refused x) next) why h none none
-
-read_takes_none : (now next : Moment) (m p from len : ℕ) (why : Refusal) → KeepsFar why → TakesNone now.core next.core → TakesRoom now (Mutator m (Read p from len)) (Refused why) next
-read_takes_none now next m p from len why h none = of_far (λ x. TakesRoom now (Mutator m (Read p from len)) (Refused x) next) why h none none
-
-view_takes_none : (now next : Moment) (m p : ℕ) (why : Refusal) → KeepsFar why → TakesNone now.core next.core → TakesRoom now (Mutator m (View p)) (Refused why) next
-view_takes_none now next m p why h none = of_far (λ x. TakesRoom now (Mutator m (View p)) (Refused x) next) why h none none
+use_takes_none : (now next : Moment) (m p : ℕ) (how : Use) (why : Refusal) → KeepsFar why → TakesNone now.core next.core → TakesRoom now (Mutator m (On p how)) (Refused why) next
+use_takes_none now next m p how why h none = of_far (λ x. TakesRoom now (Mutator m (On p how)) (Refused x) next) why h none none
 
 -- one that was given other words takes what it would if they were stored
 as_bool : {A B C D : Type 0} (b : Bool) → (A → C) → (B → D) → MatchBool b A B → MatchBool b C D
@@ -212,9 +197,7 @@ commands_take now c r next is h =
     let lasts = moment_lasts now is in
     by_outcome now r next (λ d. TakesRoom now d r next)
     (λ d h. served_take now d r next is h)
-    (λ why m p from bytes h. subst (λ x. TakesRoom now (Mutator m (Write p from bytes)) x next) (sym h.reply) (write_takes_none now next m p from bytes why h.cause (far_takes now (Mutator m (Write p from bytes)) m p why r next is h)))
-    (λ why m p from len h. subst (λ x. TakesRoom now (Mutator m (Read p from len)) x next) (sym h.reply) (read_takes_none now next m p from len why h.cause (far_takes now (Mutator m (Read p from len)) m p why r next is h)))
-    (λ why m p h. subst (λ x. TakesRoom now (Mutator m (View p)) x next) (sym h.reply) (view_takes_none now next m p why h.cause (far_takes now (Mutator m (View p)) m p why r next is h)))
+    (λ why m p how h. subst (λ x. TakesRoom now (Mutator m (On p how)) x next) (sym h.reply) (use_takes_none now next m p how why h.cause (far_takes now (Mutator m (On p how)) m p why r next is h)))
     (λ why objects count h. subst (λ x. TakesRoom now (Evacuator (Evacuate count)) x next) (sym h.reply) (served_take now (Evacuator (Evacuate objects)) (Evacuated h.progress) next is h.left))
     (λ why turns objects policy most count h. subst (λ x. TakesRoom now (Evacuator (Round policy most count)) x next) (sym h.reply)
     (stop_takes now lasts.law lasts.round lasts.alone policy most turns count objects h.stood next h.progress (stood_so now policy most turns h.stood h.turned) h.before h.within (left_some h.stood objects h.progress next h.left h.unfinished)))

@@ -363,12 +363,10 @@ round_told_so now why turns objects policy most count r next lasts h later =
 pub told_so : (now : Moment) (c : Command) (r : Reply) (next : Moment) → Lasts now → Commanded now c r next → Told now c r next
 told_so now c r next lasts h = by_outcome now r next (λ d. Told now d r next)
     (λ d h. served_so now d r next lasts h)
-    (λ why m p from new h. tt)
-    (λ why m p from len h. tt)
-    (λ why m p h. tt)
+    (λ why m p how h. tt)
     (λ why objects count h. stop_told now why objects count r next lasts h)
     (λ why turns objects policy most count h. round_told_so now why turns objects policy most count r next lasts h (after_step now (Round policy most turns) (Ended (ends.Limit Evacuating)) h.stood lasts h.turned))
-    (λ row m p d asks h. by_asked m p (λ x. Told now x r next) (λ from bytes. tt) (λ from len. tt) tt d asks)
+    (λ row m p d asks h. by_asked m p (λ x. Told now x r next) (λ how. tt) d asks)
     c h
 
 pub steps_told : (now : Moment) (step : Step) (r : Reply) (next : Moment) → IsMoment now → Commanded now (Evacuator step) r next → TellsStep now step r next

@@ -29,7 +29,7 @@ use Rattle.far_book.specs.book.Reached.{Reached}
 use Rattle.far_book.proofs.region.Reaching.{reached_more}
 use Rattle.far_evac.specs.declared.answers.RoundEnd.TheVariants.{Limit}
 use Rattle.far_evac.specs.declared.phase.Phase.TheVariants.{Evacuating}
-use Rattle.far_text.specs.Command.{Command, New, Open, Write, Read, Close, Drop, View, Try, Epoch, Mutator, Book, Evacuator, Step, Evacuate, Round}
+use Rattle.far_text.specs.Command.{Command, New, Open, On, Use, Reads, Writes, Views, Close, Drop, Try, Epoch, Mutator, Book, Evacuator, Step, Evacuate, Round}
 use Rattle.far_text.specs.Written.{WritesBytes, AllWriteBytes}
 use Rattle.far_replay.specs.Changes.{ViewsObject}
 use Rattle.far_replay_laws.specs.Headline.{IsAtHandFor, LogsStay, Reaches, ViewsNothing, ViewsAfter, carried_as, TellsEvents}
@@ -38,7 +38,7 @@ use Rattle.far_alone.specs.EventRows.{AllSucceed, AtHand, Succeeds}
 use Rattle.far_reply.specs.Reply.{Reply, Ended, Evacuated, Refused}
 use Rattle.far_replay.specs.Events.{events_for, IsNoStep, turn_events, refused_events}
 use Rattle.far_alone.specs.Events.{zero_puts, new_events, open_events, view_events, asked_events, asked_events_of, sought_events, span_events, name_events, come_events, come_events_of, dereference_events, load_events, soil_events, store_events, first_loads, last_loads, part_events, drop_events, first_word, words_touched, starts_inside, ends_inside}
-use Rattle.far_alone.specs.Objects.{lowest_cell, with_range, data_of, is_range, object_len, uses}
+use Rattle.far_alone.specs.Objects.{lowest_cell, with_range, data_of, uses}
 use Rattle.far_alone.specs.Dereference.{come, comes_to, dereferenced, has_no_room, sought}
 use Rattle.far_book.specs.book.Effects.{near_word}
 use Rattle.far_alone.specs.Effects.{is_slow, with_view}
@@ -48,8 +48,8 @@ use Rattle.far_replay.proofs.Lasting.{Lasts, all_pass, command_carried, moment_l
 use Rattle.far_replay.proofs.Outcomes.{by_outcome}
 use Rattle.far_replay_laws.proofs.Refusals.{EachCause, EachFirst, among, each_first, far_away, of_far}
 use Rattle.far_replay.proofs.RoundLeads.{reached_reaches, step_keeps, step_leads}
-use Rattle.far_replay.proofs.Turns.{access_fact, led, marked_last, read_leads, room_lacks, room_last, tried, write_leads}
-use Rattle.far_replay.proofs.Dereferences.{derefs, sought_held, sought_leads, view_views}
+use Rattle.far_replay.proofs.Turns.{access_fact, lacks_place, led, marked_last, reached, read_leads, tried, write_leads}
+use Rattle.far_replay.proofs.Dereferences.{sought_held, sought_leads, view_views}
 use Rattle.far_alone.proofs.Views.{fast_seen, view_is, slow_view}
 use Rattle.far_replay.proofs.ViewsRest.{NoClose, ClosesLast, none_closes, fronts_stay, held_now}
 use Rattle.std.specs.List.{AllByRecursion as Each}
@@ -118,18 +118,17 @@ made_views : (now : Moment) (c : Command) → IsNoStep c → Law now.core → re
     ViewsAfter now.core c (turn_reply now c) (after_events now.core (turn_events now c))
 made_views now (Mutator m (New len ds)) told law e small ok = row_stays now.core (turn_events now (Mutator m (New len ds))) (news m len ds (lowest_cell now.core m) (room now.core (size_of len) true))
 made_views now (Mutator m Open) told law e small ok = row_stays now.core (open_events now.core m) (opens now.core m)
-made_views now (Mutator m (Write p from bytes)) told law e small ok =
+made_views now (Mutator m (On p (Writes from bytes))) told law e small ok =
     let access = access_fact now.core m p from (length bytes) e in
     let views = (led now.core m p from (length bytes) law access).views in
     subst (λ (t : State). ViewsObject now.core t p) (sym (write_leads now.core m p from bytes law access small).ends) record { viewed = views.viewed; kept = views.kept; others = views.others }
-made_views now (Mutator m (Read p from len)) told law e small ok =
+made_views now (Mutator m (On p (Reads from len))) told law e small ok =
     let access = access_fact now.core m p from len e in
     subst (λ (t : State). ViewsObject now.core t p) (sym (read_leads now.core m p from len law access).ends) (led now.core m p from len law access).views
 made_views now (Mutator m Close) told law e small ok = close_views now.core m ok.0
 made_views now (Mutator m (Drop p)) told law e small ok = row_stays now.core (drop_events now.core m p) (drop_leaves_views now.core m p)
-made_views now (Mutator m (View p)) told law e small ok =
-    let h = tried (nat_lt m now.core.mutators) (is_opened now.core m) (uses now.core m p) (has_no_room now.core m p) Range Closed NotHeld NoRoom e in
-    let all = derefs now.core m p law h.1 h.2 h.3 in
+made_views now (Mutator m (On p Views)) told law e small ok =
+    let all = reached now m p Views law e in
     subst (λ (t : State). ViewsObject now.core t p) (sym all.leads.ends) all.views
 made_views now (Mutator m (Try p)) told law e small ok =
     let h = tried (nat_lt m now.core.mutators) (is_opened now.core m) (uses now.core m p) (is_slow now.core p) Range Closed NotHeld (Marked (now.core.cell p)) e in
@@ -151,15 +150,9 @@ asked_stays s m p law opened ours full =
 -- what a refusal leaves
 refused_views : (now : Moment) (c : Command) (why : Refusal) → Law now.core → refusal now c ≡ Some why →
     ViewsAfter now.core c (Refused why) (after_events now.core (refused_events now c why))
-refused_views now (Mutator m (Write p from bytes)) NoRoom law e =
-    let h = room_lacks (nat_lt m now.core.mutators) (is_opened now.core m) (uses now.core m p) (is_range (object_len now.core p) from (length bytes)) (has_no_room now.core m p) e in
-    asked_stays now.core m p law h.1 h.2 h.3
-refused_views now (Mutator m (Read p from len)) NoRoom law e =
-    let h = room_lacks (nat_lt m now.core.mutators) (is_opened now.core m) (uses now.core m p) (is_range (object_len now.core p) from len) (has_no_room now.core m p) e in
-    asked_stays now.core m p law h.1 h.2 h.3
-refused_views now (Mutator m (View p)) NoRoom law e =
-    let h = room_last (nat_lt m now.core.mutators) (is_opened now.core m) (uses now.core m p) (has_no_room now.core m p) e in
-    asked_stays now.core m p law h.1 h.2 h.3
+refused_views now (Mutator m (On p how)) NoRoom law e =
+    let h = lacks_place now m p how e in
+    asked_stays now.core m p law h.0 h.1 h.2
 refused_views now (Mutator m (Try p)) (Marked word) law e =
     let h = marked_last (nat_lt m now.core.mutators) (is_opened now.core m) (uses now.core m p) (is_slow now.core p) (now.core.cell p) word e in
     slow_stays now.core m p law h.1 h.2 h.3
@@ -193,9 +186,7 @@ views_last now c r next is later h =
     let lasts = moment_lasts now is in
     by_outcome now r next (λ d. WritesBytes d → ViewsAfter now.core d r next.core)
     (λ d h later. served_views now d r next lasts later h)
-    (λ why m p from bytes h _. subst (λ x. ViewsAfter now.core (Mutator m (Write p from bytes)) x next.core) (sym h.reply) (tried_views now (Mutator m (Write p from bytes)) why m p r next lasts h))
-    (λ why m p from len h _. subst (λ x. ViewsAfter now.core (Mutator m (Read p from len)) x next.core) (sym h.reply) (tried_views now (Mutator m (Read p from len)) why m p r next lasts h))
-    (λ why m p h _. subst (λ x. ViewsAfter now.core (Mutator m (View p)) x next.core) (sym h.reply) (tried_views now (Mutator m (View p)) why m p r next lasts h))
+    (λ why m p how h _. subst (λ x. ViewsAfter now.core (Mutator m (On p how)) x next.core) (sym h.reply) (tried_views now (Mutator m (On p how)) why m p r next lasts h))
     (λ why objects count h _. served_views now (Evacuator (Evacuate objects)) (Evacuated h.progress) next lasts tt h.left)
     (λ why turns objects policy most count h later.
     served_views h.stood (Evacuator (Evacuate objects)) (Evacuated h.progress) next (served_lasts now (Evacuator (Round policy most turns)) (Ended (Limit Evacuating)) h.stood lasts later h.turned) tt h.left
@@ -243,7 +234,7 @@ deref_no_close s m p =
 closes_last : (now : Moment) (c : Command) → ClosesLast (turn_events now c)
 closes_last now (Mutator m (New len ds)) = none_closes (turn_events now (Mutator m (New len ds))) (no_close (turn_events now (Mutator m (New len ds))) (news m len ds (lowest_cell now.core m) (room now.core (size_of len) true)))
 closes_last now (Mutator m Open) = none_closes (open_events now.core m) (no_close (open_events now.core m) (opens now.core m))
-closes_last now (Mutator m (Write p from bytes)) =
+closes_last now (Mutator m (On p (Writes from bytes))) =
     let new : List ℕ = with_range (data_of (dereferenced now.core m p) p) from bytes in
     let part : List Event = part_events m p from (length bytes) in
     let stored : List Event = store_events m p (first_word from) (words_touched from (length bytes)) new in
@@ -251,18 +242,16 @@ closes_last now (Mutator m (Write p from bytes)) =
     none_closes (dereference_events now.core m p ++ soil ++ part ++ stored) (Each-append NoClose (dereference_events now.core m p ++ soil ++ part) stored
     (Each-append NoClose (dereference_events now.core m p ++ soil) part
     (Each-append NoClose (dereference_events now.core m p) soil (deref_no_close now.core m p) (no_close soil (soils (dereferenced now.core m p) m p))) (no_close part (parts m p from (length bytes)))) (no_close stored (stores m p (first_word from) (words_touched from (length bytes)) new)))
-closes_last now (Mutator m (Read p from len)) =
+closes_last now (Mutator m (On p (Reads from len))) =
     let loaded : List Event = load_events m p (first_word from) (words_touched from len) in
     none_closes (dereference_events now.core m p ++ loaded) (Each-append NoClose (dereference_events now.core m p) loaded (deref_no_close now.core m p) (no_close loaded (loads m p (first_word from) (words_touched from len))))
 closes_last now (Mutator m (Drop p)) = none_closes (drop_events now.core m p) (no_close (drop_events now.core m p) (drop_leaves_views now.core m p))
-closes_last now (Mutator m (View p)) = none_closes (dereference_events now.core m p) (deref_no_close now.core m p)
+closes_last now (Mutator m (On p Views)) = none_closes (dereference_events now.core m p) (deref_no_close now.core m p)
 closes_last now (Mutator m (Try p)) = none_closes (view_events now.core m p) (view_no_close now.core m p)
 closes_last now _ = tt
 
 refused_closes_last : (now : Moment) (c : Command) (why : Refusal) → ClosesLast (refused_events now c why)
-refused_closes_last now (Mutator m (Write p from bytes)) NoRoom = none_closes (sought_events now.core m p) (sought_no_close now.core m p)
-refused_closes_last now (Mutator m (Read p from len)) NoRoom = none_closes (sought_events now.core m p) (sought_no_close now.core m p)
-refused_closes_last now (Mutator m (View p)) NoRoom = none_closes (sought_events now.core m p) (sought_no_close now.core m p)
+refused_closes_last now (Mutator m (On p how)) NoRoom = none_closes (sought_events now.core m p) (sought_no_close now.core m p)
 refused_closes_last now (Mutator m (Try p)) (Marked word) = none_closes (view_events now.core m p) (view_no_close now.core m p)
 refused_closes_last now c why = tt
 
@@ -273,16 +262,15 @@ command_closes_last now c (Some why) = refused_closes_last now c why
 -- ---- each command is carried out by events
 -- one that is served by its own
 each_as : (now : Moment) (c : Command) → EachFirst (λ why. carried_as c (Refused why) ≡ c) (causes now c)
-each_as now (Mutator m (Write p from bytes)) = ((λ _. refl), λ _. ((λ _. refl), λ _. ((λ _. refl), λ _. ((λ _. refl), λ _. ((λ _. refl), λ _. tt)))))
-each_as now (Mutator m (Read p from len)) = ((λ _. refl), λ _. ((λ _. refl), λ _. ((λ _. refl), λ _. ((λ _. refl), λ _. ((λ _. refl), λ _. tt)))))
-each_as now (Mutator m (View p)) = ((λ _. refl), λ _. ((λ _. refl), λ _. ((λ _. refl), λ _. ((λ _. refl), λ _. tt))))
+each_as now (Mutator m (On p Views)) = ((λ _. refl), λ _. ((λ _. refl), λ _. ((λ _. refl), λ _. ((λ _. refl), λ _. tt))))
+each_as now (Mutator m (On p how)) = ((λ _. refl), λ _. ((λ _. refl), λ _. ((λ _. refl), λ _. ((λ _. refl), λ _. ((λ _. refl), λ _. tt)))))
 each_as now c = each_first (λ why. carried_as c (Refused why) ≡ c) (causes now c) (any_cause (causes now c)) where
   any_cause : (cs : List (Bool × Refusal)) → EachCause (λ why. c ≡ c) cs
   any_cause [] = tt
   any_cause (x ∷ xs) = (refl, any_cause xs)
 
 turn_as : (now : Moment) (c : Command) → carried_as c (turn_reply now c) ≡ c
-turn_as now (Mutator m (Write p from bytes)) = refl
+turn_as now (Mutator m (On p (Writes from bytes))) = refl
 turn_as now _ = refl
 
 reply_as : (now : Moment) (c : Command) (o : Option Refusal) → refusal now c ≡ o → carried_as c (unless o Refused (turn_reply now c)) ≡ c
@@ -393,30 +381,20 @@ module _ (row : ℕ → ℕ) (now : Moment) (c : Command) (m p : ℕ) (r : Reply
         (subst ClosesLast (sym front) (command_closes_last other c (refusal other c))) q place;
   }
 
-write_as : (why : Refusal) (m p from : ℕ) (bytes : List ℕ) → KeepsFar why → carried_as (Mutator m (Write p from bytes)) (Refused why) ≡ Mutator m (Try p)
-write_as why m p from bytes h = of_far (λ x. carried_as (Mutator m (Write p from bytes)) (Refused x) ≡ Mutator m (Try p)) why h refl refl
-
-read_as : (why : Refusal) (m p from len : ℕ) → KeepsFar why → carried_as (Mutator m (Read p from len)) (Refused why) ≡ Mutator m (Try p)
-read_as why m p from len h = of_far (λ x. carried_as (Mutator m (Read p from len)) (Refused x) ≡ Mutator m (Try p)) why h refl refl
-
-view_as : (why : Refusal) (m p : ℕ) → KeepsFar why → carried_as (Mutator m (View p)) (Refused why) ≡ Mutator m (Try p)
-view_as why m p h = of_far (λ x. carried_as (Mutator m (View p)) (Refused x) ≡ Mutator m (Try p)) why h refl refl
+as_try : (why : Refusal) (m p : ℕ) (how : Use) → KeepsFar why → carried_as (Mutator m (On p how)) (Refused why) ≡ Mutator m (Try p)
+as_try why m p how h = of_far (λ x. carried_as (Mutator m (On p how)) (Refused x) ≡ Mutator m (Try p)) why h refl refl
 
 reach : (now : Moment) (c : Command) (r : Reply) (next : Moment) → Lasts now → WritesBytes c → Commanded now c r next → Reaches now c r next
 reach now c r next lasts bytes h = by_outcome now r next (λ d. WritesBytes d → Reaches now d r next)
     (λ d h bytes. served_reach now d r next lasts bytes h)
-    (λ why m p from new h _. tried_reach why now (Mutator m (Write p from new)) m p r next lasts h tt (ap (carried_as (Mutator m (Write p from new))) h.reply ∙ write_as why m p from new h.cause) (λ hand. hand))
-    (λ why m p from len h _. tried_reach why now (Mutator m (Read p from len)) m p r next lasts h tt (ap (carried_as (Mutator m (Read p from len))) h.reply ∙ read_as why m p from len h.cause) (λ hand. hand))
-    (λ why m p h _. tried_reach why now (Mutator m (View p)) m p r next lasts h tt (ap (carried_as (Mutator m (View p))) h.reply ∙ view_as why m p h.cause) (λ hand. hand))
+    (λ why m p how h _. tried_reach why now (Mutator m (On p how)) m p r next lasts h tt (ap (carried_as (Mutator m (On p how))) h.reply ∙ as_try why m p how h.cause) (λ hand. hand))
     (λ why objects count h _. way_reach now (Evacuate count) r next lasts (step_way now (Evacuate objects) (Evacuated h.progress) next lasts h.left))
     (λ why turns objects policy most count h bytes.
     let later = served_lasts now (Evacuator (Round policy most turns)) (Ended (Limit Evacuating)) h.stood lasts bytes h.turned in
     way_reach now (Round policy most count) r next lasts
     (reached_more now.core h.stood.core next.core (step_way now (Round policy most turns) (Ended (Limit Evacuating)) h.stood lasts h.turned) (step_way h.stood (Evacuate objects) (Evacuated h.progress) next later h.left)))
     (λ row m p d asks h bytes. by_asked m p (λ x. WritesBytes x → Misled row now x p r next → Reaches now x r next)
-    (λ from new bytes k. misled_reach row now (Mutator m (Write p from new)) m p r next lasts (refl, refl) tt bytes k (λ hand. hand))
-    (λ from len bytes k. misled_reach row now (Mutator m (Read p from len)) m p r next lasts (refl, refl) tt bytes k (λ hand. hand))
-    (λ bytes k. misled_reach row now (Mutator m (View p)) m p r next lasts (refl, refl) tt bytes k (λ hand. hand)) d asks bytes h)
+    (λ how bytes k. misled_reach row now (Mutator m (On p how)) m p r next lasts (refl, refl) tt bytes k (λ hand. hand)) d asks bytes h)
     c h bytes
 
 pub events_reach : (now : Moment) (c : Command) (r : Reply) (next : Moment) → IsMoment now → WritesBytes c → Commanded now c r next → Reaches now c r next

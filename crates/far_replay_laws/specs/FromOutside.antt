@@ -12,7 +12,7 @@ use Rattle.far_core.specs.state.Room.{room}
 use Rattle.far_core.specs.state.Shape.{is_shape}
 use Rattle.far_core.specs.state.State.{State}
 use Rattle.far_evac.specs.declared.phase.Phase.TheVariants.{Idle, Evacuating}
-use Rattle.far_text.specs.Command.{Command, Device, Flawed, Fail, Flip, Short, Heap, Write, Read, View, Mutator, Evacuator, Evacuate, Round}
+use Rattle.far_text.specs.Command.{Command, Device, Flawed, Fail, Flip, Short, Heap, On, Mutator, Evacuator, Evacuate, Round}
 use Rattle.far_text.specs.Grammar.{trace_of}
 use Rattle.far_replay.specs.Answers.{AnsweredBy, Answers, Commanded, IsMoment, Outside, Serves, Refuses, Gives, Lacks, first_moment, is_true, opened, shape_of}
 use Rattle.far_replay.specs.Commanded.{KeepsFar, LiesFar}
@@ -22,9 +22,7 @@ use Rattle.far_replay_laws.specs.Lying.{LiesOnce}
 
 -- the object that a command is to reach is far
 abbrev pub IsFarFor : State → Command → Type 0
-IsFarFor s (Mutator m (Write p from bytes)) = LiesFar s p
-IsFarFor s (Mutator m (Read p from len)) = LiesFar s p
-IsFarFor s (Mutator m (View p)) = LiesFar s p
+IsFarFor s (Mutator m (On p how)) = LiesFar s p
 IsFarFor s c = ⊥
 
 -- there is a place to which a far object would come: in the open log, or in a free one, but not the last
@@ -33,9 +31,7 @@ ComesSomewhere s p = (len ds : ℕ) (marks : Marks) → read_of (s.cell p) ≡ S
 
 -- there is one for the object that a command is to reach
 abbrev pub HasRoomFor : State → Command → Type 0
-HasRoomFor s (Mutator m (Write p from bytes)) = ComesSomewhere s p
-HasRoomFor s (Mutator m (Read p from len)) = ComesSomewhere s p
-HasRoomFor s (Mutator m (View p)) = ComesSomewhere s p
+HasRoomFor s (Mutator m (On p how)) = ComesSomewhere s p
 HasRoomFor s c = ⊥
 
 -- a command is refused as the device failed, or gave another number of bytes, only where its object is far before and after it, and there was room for it

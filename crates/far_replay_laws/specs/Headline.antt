@@ -32,7 +32,7 @@ use Rattle.far_evac.specs.declared.answers.RoundEnd.TheVariants as ends
 use Rattle.far_replay.specs.Alone.{Alone, KnowsBy, Learns}
 use Rattle.far_alone.specs.Own.{Own, nothing}
 use Rattle.far_replay.specs.Answers.{Answered, AnsweredBy, Answers, Commanded, IsMoment, IsOutput, Outside, Served, ByDevice, shape_of, first_moment, opened, flaws, is_true, lie_of}
-use Rattle.far_text.specs.Command.{Command, Heap, CommandLine, New, Open, Write, Read, Close, Where, Drop, View, Try, Epoch, Logs as AsksLogs, Log, Audit, Mutator, Book, Evacuator, By, Script, Select, Mark, Wait, Evacuate, Abort, Round, Device as SaidDevice, Trace}
+use Rattle.far_text.specs.Command.{Command, Heap, CommandLine, New, Open, On, Reads, Writes, Views, Close, Where, Drop, Try, Epoch, Logs as AsksLogs, Log, Audit, Mutator, Book, Evacuator, By, Script, Select, Mark, Wait, Evacuate, Abort, Round, Device as SaidDevice, Trace}
 use Rattle.far_text.specs.Grammar.{trace_of}
 use Rattle.far_replay.specs.Commanded.{AsksFor, KeepsNear, LiesFar}
 use Rattle.far_replay.specs.Moment.{Moment, as_if_stored}
@@ -59,20 +59,14 @@ use Rattle.far_replay.specs.Taking.{TakesNone, TakesSpan, DereferenceTakes, Dere
 
 -- the object that a command reads, writes, views or tries, if there is one, may be dereferenced at once
 abbrev pub IsAtHandFor : Moment → Command → Type 0
-IsAtHandFor now (Mutator m (Write p from bytes)) = now.core.cell p ≢ 0 → AtHand now.core p
-IsAtHandFor now (Mutator m (Read p from len)) = now.core.cell p ≢ 0 → AtHand now.core p
-IsAtHandFor now (Mutator m (View p)) = now.core.cell p ≢ 0 → AtHand now.core p
+IsAtHandFor now (Mutator m (On p how)) = now.core.cell p ≢ 0 → AtHand now.core p
 IsAtHandFor now (Mutator m (Try p)) = now.core.cell p ≢ 0 → AtHand now.core p
 IsAtHandFor now c = Unit {0}
 
 -- the command whose events carry a command out, by its reply: where the object of a read, a write or a view isn't brought, by the device, a try of it
 abbrev pub carried_as : Command → Reply → Command
-carried_as (Mutator m (Write p from bytes)) (Refused Device) = Mutator m (Try p)
-carried_as (Mutator m (Write p from bytes)) (Refused Damaged) = Mutator m (Try p)
-carried_as (Mutator m (Read p from len)) (Refused Device) = Mutator m (Try p)
-carried_as (Mutator m (Read p from len)) (Refused Damaged) = Mutator m (Try p)
-carried_as (Mutator m (View p)) (Refused Device) = Mutator m (Try p)
-carried_as (Mutator m (View p)) (Refused Damaged) = Mutator m (Try p)
+carried_as (Mutator m (On p how)) (Refused Device) = Mutator m (Try p)
+carried_as (Mutator m (On p how)) (Refused Damaged) = Mutator m (Try p)
 carried_as c r = c
 
 -- these are a command's events; or, where the device may lie, those that it has in a moment in which other words, as many, are stored of the far object that it asks for
@@ -113,20 +107,14 @@ MayRefuse (Mutator m Open) Range = Unit {0}
 MayRefuse (Mutator m Open) AlreadyOpen = Unit {0}
 MayRefuse (Mutator m Close) Range = Unit {0}
 MayRefuse (Mutator m Close) Closed = Unit {0}
-MayRefuse (Mutator m (Read p from len)) Range = Unit {0}
-MayRefuse (Mutator m (Read p from len)) Closed = Unit {0}
-MayRefuse (Mutator m (Read p from len)) NotHeld = Unit {0}
-MayRefuse (Mutator m (Write p from bytes)) Range = Unit {0}
-MayRefuse (Mutator m (Write p from bytes)) Closed = Unit {0}
-MayRefuse (Mutator m (Write p from bytes)) NotHeld = Unit {0}
+MayRefuse (Mutator m (On p how)) Range = Unit {0}
+MayRefuse (Mutator m (On p how)) Closed = Unit {0}
+MayRefuse (Mutator m (On p how)) NotHeld = Unit {0}
 MayRefuse (Mutator m (Where p)) Range = Unit {0}
 MayRefuse (Mutator m (Where p)) NotHeld = Unit {0}
 MayRefuse (Mutator m (Drop p)) Range = Unit {0}
 MayRefuse (Mutator m (Drop p)) NotHeld = Unit {0}
 MayRefuse (Mutator m (Drop p)) Held = Unit {0}
-MayRefuse (Mutator m (View p)) Range = Unit {0}
-MayRefuse (Mutator m (View p)) Closed = Unit {0}
-MayRefuse (Mutator m (View p)) NotHeld = Unit {0}
 MayRefuse (Mutator m (Try p)) Range = Unit {0}
 MayRefuse (Mutator m (Try p)) Closed = Unit {0}
 MayRefuse (Mutator m (Try p)) NotHeld = Unit {0}
@@ -184,9 +172,10 @@ pub record ViewsNothing (s t : State) (m : ℕ) : Type 0 where
 
 -- what a command with its reply does to the views
 abbrev pub ViewsAfter : State → Command → Reply → State → Type 0
-ViewsAfter s (Mutator m (Read p from len)) (Data bytes) t = ViewsObject s t p
-ViewsAfter s (Mutator m (Write p from bytes)) Done t = ViewsObject s t p
-ViewsAfter s (Mutator m (View p)) Done t = ViewsObject s t p
+ViewsAfter s (Mutator m (On p how)) (Refused why) t = t.held ≡ s.held
+ViewsAfter s (Mutator m (On p (Reads from len))) (Data bytes) t = ViewsObject s t p
+ViewsAfter s (Mutator m (On p (Writes from bytes))) Done t = ViewsObject s t p
+ViewsAfter s (Mutator m (On p Views)) Done t = ViewsObject s t p
 ViewsAfter s (Mutator m (Try p)) Done t = ViewsObject s t p
 ViewsAfter s (Mutator m Close) Done t = ViewsNothing s t m
 ViewsAfter s c r t = t.held ≡ s.held
@@ -194,12 +183,10 @@ ViewsAfter s c r t = t.held ≡ s.held
 -- what a command that is no step takes of the logs: a new object its span; a dereference what it takes to bring its object; anything else nothing
 abbrev pub CommandTakes : State → Command → Reply → State → Type 0
 CommandTakes s (Mutator m (New len ds)) (Pointer p) t = TakesSpan s len None true t
-CommandTakes s (Mutator m (Write p from bytes)) Done t = DereferenceTakes s p t
-CommandTakes s (Mutator m (Write p from bytes)) (Refused NoRoom) t = DereferenceLacks s p t
-CommandTakes s (Mutator m (Read p from len)) (Data bytes) t = DereferenceTakes s p t
-CommandTakes s (Mutator m (Read p from len)) (Refused NoRoom) t = DereferenceLacks s p t
-CommandTakes s (Mutator m (View p)) Done t = DereferenceTakes s p t
-CommandTakes s (Mutator m (View p)) (Refused NoRoom) t = DereferenceLacks s p t
+CommandTakes s (Mutator m (On p how)) (Refused NoRoom) t = DereferenceLacks s p t
+CommandTakes s (Mutator m (On p (Reads from len))) (Data bytes) t = DereferenceTakes s p t
+CommandTakes s (Mutator m (On p (Writes from bytes))) Done t = DereferenceTakes s p t
+CommandTakes s (Mutator m (On p Views)) Done t = DereferenceTakes s p t
 CommandTakes s (Mutator m (Drop p)) Done t = DropTakes s (read_of (s.cell p)) t
 CommandTakes s c r t = TakesNone s t
 
@@ -283,16 +270,6 @@ IsToldInFull (Refused why) = IsRefusalToldInFull why
 IsToldInFull (Halted why progress) = KeepsNear why × IsProgressToldInFull progress × (progress.done ≡ false)
 
 -- ---- the laws
--- a reply but for DIRTY, which no line tells
-abbrev pub but_dirty : Reply → Reply
-but_dirty (Lies (Near place marks)) = Lies (Near place record marks { dirty = false })
-but_dirty (Lies (Far marks)) = Lies (Far record marks { dirty = false })
-but_dirty r = r
-
--- replies that their lines tell in full are equal, but for DIRTY, where they are printed alike
-abbrev pub PrintedAlike : Type 0
-PrintedAlike = (r q : Reply) → IsToldInFull r → IsToldInFull q → reply_text r ≡ reply_text q → but_dirty r ≡ but_dirty q
-
 -- a name after which the number of a log, or of objects, stands
 abbrev pub CountsOthers : List ℕ → Type 0
 CountsOthers name = (name ≡ codes "log") ⊎ (name ≡ codes "mark") ⊎ (name ≡ codes "evacuate")

@@ -7,7 +7,7 @@ use Rattle.far_word.specs.declared.sizes.TheConstants.{CELLS}
 use Rattle.far_word.specs.Pointer.{read_of}
 use Rattle.far_core.specs.events.Naming.{unmarked}
 use Rattle.far_core.specs.state.State.{State}
-use Rattle.far_text.specs.Command.{Command, New, Open, Write, Read, Close, Where, Drop, View, Try, Epoch, Mutator, Book, Evacuator}
+use Rattle.far_text.specs.Command.{Command, New, Open, On, Close, Where, Drop, Try, Epoch, Mutator, Book, Evacuator}
 use Rattle.far_replay.specs.Answers.{Commanded, IsMoment}
 use Rattle.far_replay.specs.Moment.{Moment}
 use Rattle.far_reply.specs.Reply.{Reply, Pointer, Refused}
@@ -38,12 +38,10 @@ NewLeaves now len ds r after = ⊥
 abbrev pub LeavesBeside : Moment → Command → Reply → Moment → Type 0
 LeavesBeside now (Mutator m (New len ds)) r after = NewLeaves now len ds r after
 LeavesBeside now (Mutator m Open) r after = AllButScope now.core after.core m
-LeavesBeside now (Mutator m (Write p from bytes)) r after = AllButObject now.core after.core p
-LeavesBeside now (Mutator m (Read p from len)) r after = AllButObject now.core after.core p
+LeavesBeside now (Mutator m (On p how)) r after = AllButObject now.core after.core p
 LeavesBeside now (Mutator m Close) r after = AllButScope now.core after.core m
 LeavesBeside now (Mutator m (Where p)) r after = after ≡ now
 LeavesBeside now (Mutator m (Drop p)) r after = AllButObject now.core after.core p
-LeavesBeside now (Mutator m (View p)) r after = AllButObject now.core after.core p
 LeavesBeside now (Mutator m (Try p)) r after = AllButObject now.core after.core p
 LeavesBeside now (Mutator m Epoch) r after = AllButScope now.core after.core m
 LeavesBeside now (Book inquiry) r after = after ≡ now

@@ -14,7 +14,7 @@ use Rattle.far_replay.specs.Answers.{Answers, Commanded, IsMoment, first_moment,
 use Rattle.far_replay.specs.Moment.{Moment}
 use Rattle.far_reply.specs.Reply.{Reply, Done, Data, Refused}
 use Rattle.far_replay_laws.specs.Along.{AllAlong}
-use Rattle.far_text.specs.Command.{Command, Heap, Write, Read, View, Try, Mutator, Device as SaidDevice}
+use Rattle.far_text.specs.Command.{Command, Heap, On, Reads, Writes, Views, Try, Mutator, Device as SaidDevice}
 use Rattle.far_text.specs.Grammar.{trace_of}
 use Rattle.far_replay_laws.specs.Headline.{IsSound}
 
@@ -90,15 +90,11 @@ TryLeaves s p why t = ⊥
 
 -- by each reply that comes
 abbrev pub LeavesMarks : State → Command → Reply → State → Type 0
-LeavesMarks s (Mutator m (Read p from len)) (Data bytes) t = LeavesHot s t p
-LeavesMarks s (Mutator m (Read p from len)) (Refused why) t = RefusedLeaves s p why t
-LeavesMarks s (Mutator m (Read p from len)) r t = ⊥
-LeavesMarks s (Mutator m (Write p from bytes)) Done t = LeavesWritten s t p
-LeavesMarks s (Mutator m (Write p from bytes)) (Refused why) t = RefusedLeaves s p why t
-LeavesMarks s (Mutator m (Write p from bytes)) r t = ⊥
-LeavesMarks s (Mutator m (View p)) Done t = LeavesHot s t p
-LeavesMarks s (Mutator m (View p)) (Refused why) t = RefusedLeaves s p why t
-LeavesMarks s (Mutator m (View p)) r t = ⊥
+LeavesMarks s (Mutator m (On p how)) (Refused why) t = RefusedLeaves s p why t
+LeavesMarks s (Mutator m (On p (Reads from len))) (Data bytes) t = LeavesHot s t p
+LeavesMarks s (Mutator m (On p (Writes from bytes))) Done t = LeavesWritten s t p
+LeavesMarks s (Mutator m (On p Views)) Done t = LeavesHot s t p
+LeavesMarks s (Mutator m (On p how)) r t = ⊥
 LeavesMarks s (Mutator m (Try p)) Done t = LeavesHot s t p
 LeavesMarks s (Mutator m (Try p)) (Refused why) t = TryLeaves s p why t
 LeavesMarks s (Mutator m (Try p)) r t = ⊥

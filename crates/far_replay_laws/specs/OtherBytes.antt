@@ -2,7 +2,7 @@
 use Rattle.std.specs.Prelude.{◌≡◌, ◌≢◌, ℕ, ◌+◌, Bool, true, false, Some, List, ◌∷◌, length, slice_range}
 use Rattle.far_word.specs.Bytes.{bytes_of}
 use Rattle.far_core.specs.world.WorldOf.{world_of}
-use Rattle.far_text.specs.Command.{Command, Write, Read, View, Mutator}
+use Rattle.far_text.specs.Command.{Command, On, Reads, Writes, Mutator}
 use Rattle.far_text.specs.Written.{WritesBytes}
 use Rattle.far_alone.specs.Own.{bytes_in_world}
 use Rattle.far_replay.specs.Answers.{CommandedBy, IsMoment, Outside, Serves, Refuses, Gives, Lacks}
@@ -13,14 +13,13 @@ use Rattle.far_reply.specs.Reply.{Reply, Done, Data}
 
 -- what a command makes of its object's bytes: a write has its own in their range
 abbrev pub bytes_made : Command → List ℕ → List ℕ
-bytes_made (Mutator m (Write p from new)) bytes = with_range bytes from new
+bytes_made (Mutator m (On p (Writes from new))) bytes = with_range bytes from new
 bytes_made c bytes = bytes
 
 -- it is answered as if its object had these bytes
 abbrev pub TellsBytes : Command → Reply → List ℕ → Type 0
-TellsBytes (Mutator m (Write p from new)) r bytes = r ≡ Done
-TellsBytes (Mutator m (Read p from len)) r bytes = r ≡ Data (slice_range bytes from (from + len))
-TellsBytes (Mutator m (View p)) r bytes = r ≡ Done
+TellsBytes (Mutator m (On p (Reads from len))) r bytes = r ≡ Data (slice_range bytes from (from + len))
+TellsBytes (Mutator m (On p how)) r bytes = r ≡ Done
 TellsBytes c r bytes = ⊥
 
 -- the device may lie, and the object that the command asks for was far; it is viewed then, and has the bytes of these words, as many as it had, with what the command writes. Every

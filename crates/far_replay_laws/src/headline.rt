@@ -8,7 +8,7 @@ ghost use Rattle.far_replay_laws.specs.Chosen.{RoundsAreChosen};
 ghost use Rattle.far_replay_laws.specs.Epochs.{StepsSpendEpochs};
 ghost use Rattle.far_replay_laws.specs.FromOutside.{DeviceRefusesFar, FlawsAreSaid, MemoryIsRefusedThere};
 ghost use Rattle.far_replay_laws.specs.Listed.{AuditCountsList};
-ghost use Rattle.far_replay_laws.specs.Headline.{OutputsAreSound, OneOutput, OutsideDecides, OutsideDecidesOutput, EachTextIsAnswered, TextsWriteBytes, LinesAreNumbered, MomentsLast, EventsReach, ShapesAre, HeapsBeginLawful, ObjectsStayWhole, ViewedLogsStay, ViewsLast, RefusalsStay, RefusalsChangeNothing, TriesAreAnswered, UnknownMutatorsAreRefused, NearRefusals, MutatorsAreAlone, OwnLinesCount, MutatorsLearn, NewTakesTheLowest, NoneIsLeft, NewIsMade, NewMakesItsObject, CommandsTakeRoom, WritesChangeTheirRange, LogsAreTold, WhereTells, LogTellsItsLine, AuditCounts, DropEndsObject, EpochsAreTold, ScopesOpenAtEpochs, ClosesForget, PrintedAlike};
+ghost use Rattle.far_replay_laws.specs.Headline.{OutputsAreSound, OneOutput, OutsideDecides, OutsideDecidesOutput, EachTextIsAnswered, TextsWriteBytes, LinesAreNumbered, MomentsLast, EventsReach, ShapesAre, HeapsBeginLawful, ObjectsStayWhole, ViewedLogsStay, ViewsLast, RefusalsStay, RefusalsChangeNothing, TriesAreAnswered, UnknownMutatorsAreRefused, NearRefusals, MutatorsAreAlone, OwnLinesCount, MutatorsLearn, NewTakesTheLowest, NoneIsLeft, NewIsMade, NewMakesItsObject, CommandsTakeRoom, WritesChangeTheirRange, LogsAreTold, WhereTells, LogTellsItsLine, AuditCounts, DropEndsObject, EpochsAreTold, ScopesOpenAtEpochs, ClosesForget};
 ghost use Rattle.far_replay_laws.specs.Ages.{AgesStay};
 ghost use Rattle.far_replay_laws.specs.Left.{StepsLeave};
 ghost use Rattle.far_replay_laws.specs.Stands.{RoundsStand};
@@ -127,11 +127,6 @@ pub fn new_is_made()
 /// Splicing, by which a write is defined, changes the bytes of its range, and no others.
 pub fn writes_change_their_range()
     ensures { WritesChangeTheirRange }
-{}
-
-/// Replies that their lines tell in full (numbers of 64 bits, bytes) are equal, but for DIRTY, where they are printed alike.
-pub fn lines_tell_replies()
-    ensures { PrintedAlike }
 {}
 
 /// `logs` reports each log once, by number: its kind and its bytes, which make 4,096.

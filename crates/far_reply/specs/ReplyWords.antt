@@ -27,6 +27,7 @@ DataRead = Reads (Data (10 ∷ 255 ∷ 0 ∷ 192 ∷ [])) (codes "data 0aff00c0\
 
 abbrev pub EpochsRead : Type 0
 EpochsRead = Reads (EpochRead 7) (codes "epoch 7\n")
+    × Reads (EpochRead 12345) (codes "epoch 12345\n")
 
 -- an object in log 3 at word 45, and one on the far side, with these marks
 abbrev pub near_with : Marks → Reply
@@ -115,3 +116,4 @@ ReasonsRead = Reads (Refused (MarkFound 0x0400_0000_0001_0008)) (codes "refused 
 -- and those of a step that had done something
 abbrev pub HaltsRead : Type 0
 HaltsRead = Reads (Halted Device (progress_so false)) (codes "refused 10 moved 4 far 13 dropped 2 freed 1\n")
+    × Reads (Halted Memory (progress_so false)) (codes "refused 1 moved 4 far 13 dropped 2 freed 1\n")

@@ -2,8 +2,8 @@
 
 ghost use Rattle.far_reply.specs.ReplyWords.{DonesRead, PointersRead, DataRead, EpochsRead, HomesRead, LogsRead, AuditsRead, SelectionsRead, MarksRead, ClearsRead, EvacuationsRead, RoundsRead, RefusalsRead, ReasonsRead, HaltsRead};
 
-/// Worked replies of each form, each with another number in every place, and the text that is printed for each. Beside
-/// `lines_tell_replies` they fix the words of replies and the order of what they tell.
+/// Worked replies of each form, each with another number in every place, and the text that is printed for each. They fix the words of replies and the order of what
+/// they tell.
 pub fn replies_read()
     ensures dones { DonesRead }
     ensures pointers { PointersRead }

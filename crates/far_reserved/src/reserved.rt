@@ -21,6 +21,7 @@ impl Reserved {
     pub fn new(alloc: Global, room: usize) -> Result<Reserved, AllocError>
         ensures room { IfOk result (λ storage. storage.room ≡ room) }
         ensures empty { IfOk result (λ storage. vec_len storage.bytes ≡ 0) }
+        ensures taken { IfOk result (λ storage. vec_capacity storage.bytes ≡ room) }
     {
         match Vec::with_capacity(alloc, room) {
             Ok(bytes) => Ok(Reserved { bytes, room }),

@@ -1,8 +1,8 @@
 -- Lines by place, and slots that have places.
-use Rattle.std.proofs.Common.{◌≡◌, ℕ, zero, suc, ◌<◌, true, Option, Some, None, List, [], ◌∷◌, ◌++◌, length, get_or, slice_get, inl, inr, refl, sym, ◌∙◌, ap, arith}
+use Rattle.std.proofs.Common.{◌≡◌, ℕ, zero, suc, ◌<◌, true, Option, Some, None, List, [], ◌∷◌, ◌++◌, length, slice_get, inl, inr, refl, sym, ◌∙◌, ap, arith}
 use Rattle.std.proofs.lemmas.Bool.{cases_lt}
 use Rattle.std.proofs.lemmas.List.{length-append}
-use Rattle.std.proofs.lemmas.Option.{slice_get-get_or, slice_get_past}
+use Rattle.std.proofs.lemmas.Option.{slice_get_past}
 use Rattle.far_objects.specs.Far.{Far}
 use Rattle.far_index.specs.declared.slot.Slot.{Slot}
 use Rattle.far_index.specs.declared.slot.Slot.TheVariants.{Full}
@@ -31,10 +31,6 @@ pub place_within : {A : Type 0} (f : ℕ → Option A) (numbers : List ℕ) (k :
 place_within f [] k a e = absurd (none_some a e)
 place_within f (n ∷ ns) zero a e = omega arith
 place_within f (n ∷ ns) (suc k) a e = omega (arith, place_within f ns k a e)
-
--- what a place's number stands for
-pub number_there : {A : Type 0} (f : ℕ → Option A) (numbers : List ℕ) (k : ℕ) → k < length numbers → of_number f (slice_get numbers k) ≡ f (get_or numbers k 0)
-number_there f numbers k h = ap (of_number f) (slice_get-get_or numbers k 0 h)
 
 -- ---- what is kept
 size_kept : (old new : Far) (numbers more : List ℕ) → Keeps old new → ((i n : ℕ) → slice_get numbers i ≡ Some n → slice_get more i ≡ Some n) →

@@ -8,8 +8,8 @@ use Rattle.std.proofs.lemmas.Option.{slice_get_past}
 use Rattle.far_objects.specs.declared.objects.TheConstants.{MOST}
 use Rattle.far_objects.specs.Far.{Drops, Far, Makes}
 use Rattle.far_word.specs.declared.refused.Refused.{Refused as Refusal}
-use Rattle.far_word.specs.declared.refused.Refused.TheVariants.{Length, Memory, NotHeld, Range}
-use Rattle.far_large.specs.Parts.{AsBefore, Holds, IsCount, IsWhyNotPut, IsWhyNotRead, Parts, Puts, Stands, number_of, part_len, part_of}
+use Rattle.far_word.specs.declared.refused.Refused.TheVariants.{NotHeld}
+use Rattle.far_large.specs.Parts.{AsBefore, Holds, IsCount, Parts, Puts, Stands, number_of, part_len, part_of}
 use Rattle.far_seen.specs.declared.read.TheConstants.{LONG}
 use Rattle.far_seen.specs.Stored.{Keeps, Put, Stored, both, joined, long_bytes, long_size, with_longs}
 
@@ -223,14 +223,3 @@ module _ (old new : Far) (longs : List Parts) (large : Parts) (xs : List ℕ) (s
 pub undone_so : {A : Type 0} (h : ℕ) (xs : List ℕ) (old now new : Far) (r : Result A Refusal) → Makes h xs old now → OnOk r (Drops h now new) → IfErr r (λ why. (why ≡ NotHeld) × (now.sizes h ≡ None) × (new ≡ now)) → AsBefore old new
 undone_so h xs old now new (Ok x) m d e = undone h xs old now new m d
 undone_so h xs old now new (Err why) m d e = absurd (none_some (length xs) (now.sizes h) e.1 m.size)
-
--- ---- why a line isn't put or read
-pub why_not_put : (unmade : Refusal → Type 0) (n : ℕ) (why : Refusal) → 0 < n → IsWhyNotPut unmade n why → (why ≡ Memory) ⊎ unmade why
-why_not_put unmade n Length some w = absurd (omega (arith, some, w))
-why_not_put unmade n Memory some w = inl refl
-why_not_put unmade n why some w = inr w.1
-
-pub why_not_read : (unreached : Bool → Refusal → Type 0) (far : Far) (large : Parts) (why : Refusal) → Stands far large → IsWhyNotRead unreached far large None why → (why ≡ Memory) ⊎ unreached far.honest why
-why_not_read unreached far large NotHeld stands w = absurd (w.1 stands)
-why_not_read unreached far large Range stands w = absurd (cc)
-why_not_read unreached far large why stands w = inr w.1

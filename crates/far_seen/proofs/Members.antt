@@ -49,9 +49,6 @@ right false b e = e
 none_some : (q : List ℕ) → ◌≡◌ {A = Option (List ℕ)} None (Some q) → ⊥
 none_some q e = cc
 
-some_same : (a b : List ℕ) → ◌≡◌ {A = Option (List ℕ)} (Some a) (Some b) → a ≡ b
-some_same a b e = cc
-
 any_some : (q : List ℕ) (o : Option (List ℕ)) → any_of q o ≡ true → o ≡ Some q
 any_some q None e = absurd (not_both false refl e)
 any_some q (Some x) e = ap (λ y. Some y) (sym ((ties q x).0 e))

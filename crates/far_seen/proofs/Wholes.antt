@@ -1,24 +1,17 @@
 -- A whole object is read, and a long line part by part.
-use Rattle.std.proofs.Common.{◌≡◌, ℕ, ◌+◌, ◌-◌, ◌≤◌, Bool, true, false, not, Some, Option, Result, Ok, Err, OnOk, List, ◌++◌, length, take, drop, inr, refl, sym, ◌∙◌, ap, subst, arith}
+use Rattle.std.proofs.Common.{◌≡◌, ℕ, ◌+◌, ◌-◌, Bool, true, false, not, Some, Option, Result, Ok, Err, OnOk, List, ◌++◌, length, take, drop, inr, refl, sym, ◌∙◌, ap, subst, arith}
 use Rattle.std.specs.Prelude.{IfSome}
 use Rattle.std.proofs.lemmas.List.{drop_all, take_all, append-nil}
 use Rattle.std.specs.Prelude.{IfOk}
 use Rattle.std.specs.Bool.{Decides}
 use Rattle.std.specs.Str.{bytes_eq}
 use Rattle.std.proofs.lemmas.Slice.Eq.{bytes_eq-Decides}
-use Rattle.std.specs.List.{slice_get}
 use Rattle.std.proofs.Math.Seq.{take-add}
-use Rattle.std.specs.declared.hash.DefaultHasher.{DefaultHasher}
 use Rattle.std.specs.Prelude.{IfErr}
 use Rattle.far_word.specs.declared.refused.Refused.{Refused as Refusal}
 use Rattle.far_word.specs.declared.refused.Refused.TheVariants.{Damaged}
 use Rattle.far_objects.specs.Far.{Far, Known}
-use Rattle.far_index.specs.Tags.{tag_of}
-use Rattle.far_large.specs.Parts.{Holds, Parts}
 use Rattle.far_seen.specs.Causes.{IsWhyUnread}
-use Rattle.far_seen.specs.declared.read.TheConstants.{LONG}
-use Rattle.far_seen.specs.Stored.{Stored, joined, long_bytes, with_longs}
-use Rattle.far_seen.proofs.Longs.{high_bytes}
 
 some_are : (b : Option (List ℕ)) (xs : List ℕ) (P : List ℕ → Type 0) → b ≡ Some xs → IfSome b P → P xs
 some_are b xs P e p = subst (λ x. IfSome x P) e p
@@ -51,9 +44,6 @@ piece_is read piece done count line is e =
     let back : done + count - done ≡ count = omega arith in
     sym is ∙ (bytes_eq-Decides read (take (done + count - done) (drop done line))).0 (not_not (bytes_eq read (take (done + count - done) (drop done line))) e) ∙ ap (λ n. take n (drop done line)) back
 
-pub all_same : (done : ℕ) (xs line : List ℕ) → length xs ≡ length line → length line ≤ done → take done xs ≡ take done line → xs ≡ line
-all_same done xs line long all same = sym (take_all done xs (omega (arith, long, all))) ∙ same ∙ take_all done line all
-
 -- ---- what a number stands for
 if_decides : {E : Type 0} (r : Result Bool E) (P Q : Type 0) → (P → Q) → (Q → P) → IfOk r (λ there. Decides there P) → IfOk r (λ there. Decides there Q)
 if_decides (Ok there) P Q f g d = ((λ e. f (d.0 e)), (λ q. d.1 (g q)))
@@ -61,12 +51,6 @@ if_decides (Err e) P Q f g d = d
 
 some_bytes : (xs ys : List ℕ) → ◌≡◌ {A = Option (List ℕ)} (Some xs) (Some ys) → xs ≡ ys
 some_bytes xs ys e = cc
-
-pub long_decides : {E : Type 0} (far : Far) (longs : List Parts) (k : ℕ) (large : Parts) (xs line : List ℕ) (r : Result Bool E) → LONG ≤ k → slice_get longs (k - LONG) ≡ Some large → joined far.bytes large.numbers ≡ Some xs →
-    IfOk r (λ there. Decides there (xs ≡ line)) → IfOk r (λ there. Decides there ((with_longs far longs).bytes k ≡ Some line))
-long_decides far longs k large xs line r high here whole d =
-    let is : (with_longs far longs).bytes k ≡ Some xs = high_bytes far longs k high ∙ ap (long_bytes far.bytes) here ∙ whole in
-    if_decides r (xs ≡ line) ((with_longs far longs).bytes k ≡ Some line) (λ same. is ∙ ap (λ t. Some t) same) (λ there. some_bytes xs line (sym is ∙ there)) d
 
 -- ---- what was read, and the tag of what was put
 pub not_true : (b : Bool) → (b ≡ true → ⊥) → b ≡ false
@@ -90,21 +74,7 @@ all_read n xs read now long same is = same ∙ is ∙ take_all n xs (omega (arit
 pub whole_decides : {E : Type 0} (xs read line : List ℕ) (r : Result Bool E) → read ≡ xs → IfOk r (λ there. Decides there (read ≡ line)) → IfOk r (λ there. Decides there (xs ≡ line))
 whole_decides xs read line r same d = if_decides r (read ≡ line) (xs ≡ line) (λ e. sym same ∙ e) (λ e. same ∙ e) d
 
--- a long line has the tag of its slot
-pub long_tagged : (far : Far) (longs : List Parts) (k tag : ℕ) (seed : DefaultHasher) (large : Parts) → LONG ≤ k → slice_get longs (k - LONG) ≡ Some large → Stored far longs →
-    ((xs : List ℕ) → far.honest ≡ true → (with_longs far longs).bytes k ≡ Some xs → tag ≡ tag_of seed xs) → far.honest ≡ true → (xs : List ℕ) × Holds far large xs × (tag ≡ tag_of seed xs)
-long_tagged far longs k tag seed large high here stored tagged o =
-    let m = stored.known o (k - LONG) large here in
-    (m.0, m.1, tagged m.0 o (high_bytes far longs k high ∙ ap (long_bytes far.bytes) here ∙ m.2))
-
 -- what was read is what a number stands for
 pub on_ok : {A E : Type 0} (r : Result A E) (P Q : Type 0) → (P → Q) → OnOk r P → OnOk r Q
 on_ok (Ok x) P Q f p = f p
 on_ok (Err e) P Q f p = p
-
-pub long_read : {A E : Type 0} (far : Far) (longs : List Parts) (k : ℕ) (large : Parts) (out : List ℕ) (r : Result A E) → LONG ≤ k → slice_get longs (k - LONG) ≡ Some large → Stored far longs →
-    ((xs : List ℕ) → far.honest ≡ true → Holds far large xs → OnOk r (out ≡ xs)) → far.honest ≡ true → OnOk r ((with_longs far longs).bytes k ≡ Some out)
-long_read far longs k large out r high here stored read o =
-    let m = stored.known o (k - LONG) large here in
-    let is : (with_longs far longs).bytes k ≡ Some m.0 = high_bytes far longs k high ∙ ap (long_bytes far.bytes) here ∙ m.2 in
-    on_ok r (out ≡ m.0) ((with_longs far longs).bytes k ≡ Some out) (λ e. is ∙ ap (λ t. Some t) (sym e)) (read m.0 o m.1)

@@ -5,6 +5,7 @@ ghost use Rattle.std.specs.Bool.{Decides};
 ghost use Rattle.far_index.specs.declared.slot.Slot.TheVariants.{Full};
 ghost use Rattle.far_index.specs.Slots.{IsTag, Reached, slot_at};
 ghost use Rattle.far_index.specs.Tags.{tag_of};
+ghost use Rattle.far_large.specs.Parts.{AsBefore};
 ghost use Rattle.far_seen.specs.Causes.{IsWhyUnread};
 ghost use Rattle.far_seen.specs.Listed.{Listed, all_of};
 ghost use Rattle.far_seen.specs.Parts.{Has, Sound, plain};
@@ -108,6 +109,7 @@ pub fn enter<O: Objects + Drop>(roll: &mut Roll<O>, tag: u64, line: &[u8]) -> Re
     ensures before { (k : ℕ) → k < length roll.old.numbers.items → (all_of (O.far roll.new.store.worker) roll.new.store.longs.items roll.new.numbers.items).bytes k ≡ (all_of (O.far roll.old.store.worker) roll.old.store.longs.items roll.old.numbers.items).bytes k }
     ensures last { (O.far roll.old.store.worker).honest ≡ true → OnOk result ((all_of (O.far roll.new.store.worker) roll.new.store.longs.items roll.new.numbers.items).bytes (length roll.old.numbers.items) ≡ Some line.now) }
     ensures err { OnErr result (roll.new.counts.items ≡ roll.old.counts.items) }
+    ensures left { OnErr result (AsBefore (O.far roll.old.store.worker) (O.far roll.new.store.worker)) }
     ensures why { IfErr result (λ why. (why ≡ Refused.Memory) ⊎ O.unmade why) }
 {
     let place = roll.numbers.len();

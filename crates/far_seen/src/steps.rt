@@ -6,6 +6,7 @@ ghost use Rattle.std.specs.FinSet as set;
 ghost use Rattle.far_objects.specs.Far.{Far};
 ghost use Rattle.far_index.specs.Slots.{IsTag, slot_at};
 ghost use Rattle.far_index.specs.Tags.{tag_of};
+ghost use Rattle.far_large.specs.Parts.{AsBefore};
 ghost use Rattle.far_seen.specs.Causes.{IsWhyUnread};
 ghost use Rattle.far_seen.specs.Parts.{Has, Sound, lines_of, plain};
 ghost use Rattle.far_seen.specs.Stored.{Stored, with_longs};
@@ -61,6 +62,7 @@ pub fn add<O: Objects + Drop>(parts: &mut Parts<O>, tag: u64, line: &[u8]) -> Re
     ensures honest { (O.far parts.new.store.worker).honest ≡ (O.far parts.old.store.worker).honest }
     ensures ok { (O.far parts.old.store.worker).honest ≡ true → OnOk result ((lines_of (plain (with_longs (O.far parts.new.store.worker) parts.new.store.longs.items) parts.new.near)).lines ≡ set.insert (lines_of (plain (with_longs (O.far parts.old.store.worker) parts.old.store.longs.items) parts.old.near)).lines line.now) }
     ensures err { OnErr result (lines_of (plain (with_longs (O.far parts.new.store.worker) parts.new.store.longs.items) parts.new.near) ≡ lines_of (plain (with_longs (O.far parts.old.store.worker) parts.old.store.longs.items) parts.old.near)) }
+    ensures left { OnErr result (AsBefore (O.far parts.old.store.worker) (O.far parts.new.store.worker)) }
     ensures why { IfErr result (λ why. (why ≡ Refused.Memory) ⊎ O.unmade why) }
 {
     if parts.near.count == usize::MAX {

@@ -16,8 +16,8 @@ use Rattle.far_heap.specs.HeapId.{HeapId}
 use Rattle.far_heap.specs.Mine.{Asks, AsksToView, HasLeft as LeavesOne, IsNoObject, IsNoView, IsRefusedNew, IsRefusedView, IsSlow, IsUnbrought, Mine, UsesAll, adopting, asking, bytes_in, closing, drop_refusal, dropping, ds_in, is_length, len_in, opening, owns, uses, viewing, views, with_range, writing}
 use Rattle.far_heap.specs.MineLaw.{MineLaw}
 use Rattle.far_heap.proofs.Spliced.{length-with_range, with_range_inside}
-use Rattle.far_text.specs.Command.{Close, Command, Drop, Mutator, New, Open, Read, Request, Try, View, Write}
-use Rattle.far_replay.specs.Alone.{HasAll, HasLeft, Knows}
+use Rattle.far_text.specs.Command.{Close, Command, Drop, Mutator, New, Open, On, Use, Reads, Writes, Views, Request, Try}
+use Rattle.far_replay.specs.Alone.{FitsIn, HasAll, HasLeft, Knows}
 use Rattle.far_alone.specs.Own.{Own}
 use Rattle.far_reply.specs.Reply.{Data, Done, Pointer, Refused, Reply}
 use Rattle.far_replay.proofs.Fronts.{ranges_same}
@@ -71,27 +71,12 @@ module _ {heap : HeapId} (m : Mine) (o : Own) (opened : o.opened ≡ true) (p : 
         | inr (inr (inr e)) ↦ by Damaged e (damaged (λ honest. false≢true (sym (honestly e) ∙ honest)))
       ]
 
-  unbrought_view : IsToldSo heap m o (View p) why
-  unbrought_view =
-      unbrought (View p)
-      (λ had. (plainly m.honest m.number o (Mutator m.number (View p)) (Refused NoRoom) o (opened, unviewed, refl, (all, known)) (λ _. tt), had))
-      (λ had. (plainly m.honest m.number o (Mutator m.number (View p)) (Refused Device) o (opened, unviewed, refl, (all, known)) (λ _. tt), had))
-      (λ whole had. (plainly m.honest m.number o (Mutator m.number (View p)) (Refused Damaged) o (opened, unviewed, refl, (all, known)) whole, had))
-
-  module _ (from : ℕ) where
-    unbrought_read : (count : ℕ) → 0 < count → from + count ≤ length all → IsToldSo heap m o (Read p from count) why
-    unbrought_read count some fits =
-        unbrought (Read p from count)
-        (λ had. (plainly m.honest m.number o (Mutator m.number (Read p from count)) (Refused NoRoom) o (opened, unviewed, refl, (all, known, (some, fits))) (λ _. tt), had))
-        (λ had. (plainly m.honest m.number o (Mutator m.number (Read p from count)) (Refused Device) o (opened, unviewed, refl, (all, known, (some, fits))) (λ _. tt), had))
-        (λ whole had. (plainly m.honest m.number o (Mutator m.number (Read p from count)) (Refused Damaged) o (opened, unviewed, refl, (all, known, (some, fits))) whole, had))
-
-    unbrought_write : (new : List ℕ) → 0 < length new → from + length new ≤ length all → IsToldSo heap m o (Write p from new) why
-    unbrought_write new some fits =
-        unbrought (Write p from new)
-        (λ had. (plainly m.honest m.number o (Mutator m.number (Write p from new)) (Refused NoRoom) o (opened, unviewed, refl, (all, known, (some, fits))) (λ _. tt), had))
-        (λ had. (plainly m.honest m.number o (Mutator m.number (Write p from new)) (Refused Device) o (opened, unviewed, refl, (all, known, (some, fits))) (λ _. tt), had))
-        (λ whole had. (plainly m.honest m.number o (Mutator m.number (Write p from new)) (Refused Damaged) o (opened, unviewed, refl, (all, known, (some, fits))) whole, had))
+  unbrought_use : (how : Use) → FitsIn all how → IsToldSo heap m o (On p how) why
+  unbrought_use how fits =
+      unbrought (On p how)
+      (λ had. (plainly m.honest m.number o (Mutator m.number (On p how)) (Refused NoRoom) o (opened, unviewed, refl, (all, known, fits)) (λ _. tt), had))
+      (λ had. (plainly m.honest m.number o (Mutator m.number (On p how)) (Refused Device) o (opened, unviewed, refl, (all, known, fits)) (λ _. tt), had))
+      (λ whole had. (plainly m.honest m.number o (Mutator m.number (On p how)) (Refused Damaged) o (opened, unviewed, refl, (all, known, fits)) whole, had))
 
 length_fits : (len : ℕ) → 0 < len → len ≤ LONGEST → is_length len ≡ true
 length_fits len some most = ap (λ b. b && nat_le len LONGEST) (le-leb 1 len some) ∙ le-leb len LONGEST most
@@ -172,11 +157,7 @@ module _ {heap : HeapId} (m : Mine) (law : MineLaw m) where
 
   pub closed_here : m.opened ≡ false → (request : Request) → needs_scope request ≡ true → Answers heap m request (Refused Closed) m
   closed_here closed Close wants = refuses Close Closed (λ o is. (plainly m.honest m.number o (Mutator m.number Close) (Refused Closed) o (is.opened ∙ closed, refl) (λ _. tt), tt))
-  closed_here closed (Read p from len) wants =
-      refuses (Read p from len) Closed (λ o is. (plainly m.honest m.number o (Mutator m.number (Read p from len)) (Refused Closed) o (is.opened ∙ closed, refl) (λ _. tt), tt))
-  closed_here closed (Write p from bytes) wants =
-      refuses (Write p from bytes) Closed (λ o is. (plainly m.honest m.number o (Mutator m.number (Write p from bytes)) (Refused Closed) o (is.opened ∙ closed, refl) (λ _. tt), tt))
-  closed_here closed (View p) wants = refuses (View p) Closed (λ o is. (plainly m.honest m.number o (Mutator m.number (View p)) (Refused Closed) o (is.opened ∙ closed, refl) (λ _. tt), tt))
+  closed_here closed (On p how) wants = refuses (On p how) Closed (λ o is. (plainly m.honest m.number o (Mutator m.number (On p how)) (Refused Closed) o (is.opened ∙ closed, refl) (λ _. tt), tt))
   closed_here closed (Try p) wants = refuses (Try p) Closed (λ o is. (plainly m.honest m.number o (Mutator m.number (Try p)) (Refused Closed) o (is.opened ∙ closed, refl) (λ _. tt), tt))
   closed_here closed request wants = absurd (false≢true wants)
 
@@ -185,13 +166,13 @@ module _ {heap : HeapId} (m : Mine) (law : MineLaw m) where
 
   -- while the scope is open
   module _ (opened : m.opened ≡ true) (p : ℕ) where
-    pub viewed : (n : Mine) → uses m p ≡ true → AsksToView p m n → Answers heap m (View p) Done n
+    pub viewed : (n : Mine) → uses m p ≡ true → AsksToView p m n → Answers heap m (On p Views) Done n
     viewed n used views =
-        subst (λ (z : Mine). Answers heap m (View p) Done z) (sym views.1) (record {
+        subst (λ (z : Mine). Answers heap m (On p Views) Done z) (sym views.1) (record {
           learns = λ o is. (let known = used_known m o is p used in record {
             own = record o { viewed = put o.viewed p true };
             is = is_viewing m law o is p (used_own m p used) views.0;
-            knows = plainly m.honest m.number o (Mutator m.number (View p)) Done (record o { viewed = put o.viewed p true }) (is.opened ∙ opened, refl, (known.all, known.is)) (λ _. tt);
+            knows = plainly m.honest m.number o (Mutator m.number (On p Views)) Done (record o { viewed = put o.viewed p true }) (is.opened ∙ opened, refl, (known.all, known.is)) (λ _. tt);
             tells = tt;
           });
           short = tt;
@@ -232,34 +213,27 @@ module _ {heap : HeapId} (m : Mine) (law : MineLaw m) where
         honest = refl;
       })
 
-      pub unviewed : Answers heap m (View p) (Refused why) n
-      unviewed = unanswered (View p) (λ o is. elim (no_view (uses m p) (views m p) why no) [
-        | inl h ↦ subst (IsToldSo heap m o (View p)) (sym h.1) (plainly m.honest m.number o (Mutator m.number (View p)) (Refused NotHeld) o (is.opened ∙ opened, unused_none m o is p h.0, refl) (λ _. tt), tt)
-        | inr h ↦ (let known = used_known m o is p h.0 in unbrought_view m o (is.opened ∙ opened) p known.all known.is why (is.viewed p ∙ h.1) h.2 honestly never (cause h.0))
+      pub unviewed : Answers heap m (On p Views) (Refused why) n
+      unviewed = unanswered (On p Views) (λ o is. elim (no_view (uses m p) (views m p) why no) [
+        | inl h ↦ subst (IsToldSo heap m o (On p Views)) (sym h.1) (plainly m.honest m.number o (Mutator m.number (On p Views)) (Refused NotHeld) o (is.opened ∙ opened, unused_none m o is p h.0, refl) (λ _. tt), tt)
+        | inr h ↦ (let known = used_known m o is p h.0 in unbrought_use m o (is.opened ∙ opened) p known.all known.is why (is.viewed p ∙ h.1) h.2 honestly never (cause h.0) Views tt)
       ])
 
-      module _ (used : uses m p ≡ true) (from : ℕ) where
-        unread : (count : ℕ) → 0 < count → from + count ≤ len_in m p → Answers heap m (Read p from count) (Refused why) n
-        unread count some fits = unanswered (Read p from count) (λ o is. elim (no_view (uses m p) (views m p) why no) [
+      module _ (used : uses m p ≡ true) where
+        unreached : (how : Use) → ((all : List ℕ) → length all ≡ len_in m p → FitsIn all how) → Answers heap m (On p how) (Refused why) n
+        unreached how fits = unanswered (On p how) (λ o is. elim (no_view (uses m p) (views m p) why no) [
           | inl h ↦ absurd (false≢true (sym h.0 ∙ used))
           | inr h ↦ (let known = used_known m o is p used in
-              unbrought_read m o (is.opened ∙ opened) p known.all known.is why (is.viewed p ∙ h.1) h.2 honestly never (cause used) from count some (omega (arith, fits, known.long)))
-        ])
-
-        unwritten : (new : List ℕ) → 0 < length new → from + length new ≤ len_in m p → Answers heap m (Write p from new) (Refused why) n
-        unwritten new some fits = unanswered (Write p from new) (λ o is. elim (no_view (uses m p) (views m p) why no) [
-          | inl h ↦ absurd (false≢true (sym h.0 ∙ used))
-          | inr h ↦ (let known = used_known m o is p used in
-              unbrought_write m o (is.opened ∙ opened) p known.all known.is why (is.viewed p ∙ h.1) h.2 honestly never (cause used) from new some (omega (arith, fits, known.long)))
+              unbrought_use m o (is.opened ∙ opened) p known.all known.is why (is.viewed p ∙ h.1) h.2 honestly never (cause used) how (fits known.all known.long))
         ])
 
     -- the object is viewed, and some of its bytes are read or written
     module _ (used : uses m p ≡ true) (n : Mine) (views : AsksToView p m n) (from : ℕ) where
       -- over an honest far side they are the bytes that it has; over one that may lie it is given any
       has_read : (count : ℕ) (bytes : List ℕ) → 0 < count → from + count ≤ len_in m p → length bytes ≡ count → IfSome (bytes_in n p) (λ all. bytes ≡ slice_range all from (from + count))
-          → Answers heap m (Read p from count) (Data bytes) n
+          → Answers heap m (On p (Reads from count)) (Data bytes) n
       has_read count bytes some fits long are =
-          subst (λ (z : Mine). Answers heap m (Read p from count) (Data bytes) z) (sym views.1) (record {
+          subst (λ (z : Mine). Answers heap m (On p (Reads from count)) (Data bytes) z) (sym views.1) (record {
             learns = λ o is. reads o is m.honest refl;
             short = (let most = law.most p used in omega (arith, long, most, fits));
             logless = tt;
@@ -273,14 +247,14 @@ module _ {heap : HeapId} (m : Mine) (law : MineLaw m) where
           of_m : IfSome (bytes_in m p) (λ all. bytes ≡ slice_range all from (from + count))
           of_m = subst (λ (z : Mine). IfSome (bytes_in z p) (λ all. bytes ≡ slice_range all from (from + count))) views.1 are
 
-          reads : (o : Own) → IsOwn m o → (honest : Bool) → m.honest ≡ honest → Learns heap m o (Read p from count) (Data bytes) (viewing p (asking p views.0 m))
+          reads : (o : Own) → IsOwn m o → (honest : Bool) → m.honest ≡ honest → Learns heap m o (On p (Reads from count)) (Data bytes) (viewing p (asking p views.0 m))
           reads o is true honest =
               let known = used_known m o is p used in
               let same : bytes ≡ slice_range known.all from (from + count) = subst (λ (b : Option (List ℕ)). IfSome b (λ all. bytes ≡ slice_range all from (from + count))) (known.sure honest) of_m in
               record {
                 own = record o { viewed = put o.viewed p true };
                 is = is_viewing m law o is p own views.0;
-                knows = plainly m.honest m.number o (Mutator m.number (Read p from count)) (Data bytes) (record o { viewed = put o.viewed p true }) (is.opened ∙ opened, refl, (known.all, known.is, (some, omega (arith, fits, known.long)), same)) (λ _. tt);
+                knows = plainly m.honest m.number o (Mutator m.number (On p (Reads from count))) (Data bytes) (record o { viewed = put o.viewed p true }) (is.opened ∙ opened, refl, (known.all, known.is, (some, omega (arith, fits, known.long)), same)) (λ _. tt);
                 tells = tt;
               }
           reads o is false lying =
@@ -293,7 +267,7 @@ module _ {heap : HeapId} (m : Mine) (law : MineLaw m) where
               record {
                 own = record other { viewed = put o.viewed p true };
                 is = is_viewing m law other (is_otherwise m law o is p own lying used new (many ∙ known.long)) p own views.0;
-                knows = subst (λ h. KnowsHere h m.number o (Mutator m.number (Read p from count)) (Data bytes) (record other { viewed = put o.viewed p true })) (sym lying) (inr (record {
+                knows = subst (λ h. KnowsHere h m.number o (Mutator m.number (On p (Reads from count))) (Data bytes) (record other { viewed = put o.viewed p true })) (sym lying) (inr (record {
                   p = p;
                   asks = (refl, refl);
                   old = known.all;
@@ -305,13 +279,13 @@ module _ {heap : HeapId} (m : Mine) (law : MineLaw m) where
                 tells = tt;
               }
 
-      has_written : (later : Mine) (new : List ℕ) → 0 < length new → from + length new ≤ len_in m p → later ≡ writing p from new n → Answers heap m (Write p from new) Done later
+      has_written : (later : Mine) (new : List ℕ) → 0 < length new → from + length new ≤ len_in m p → later ≡ writing p from new n → Answers heap m (On p (Writes from new)) Done later
       has_written later new some fits e =
-          subst (λ (z : Mine). Answers heap m (Write p from new) Done z) (sym (e ∙ ap (writing p from new) views.1)) (record {
+          subst (λ (z : Mine). Answers heap m (On p (Writes from new)) Done z) (sym (e ∙ ap (writing p from new) views.1)) (record {
             learns = λ o is. (let known = used_known m o is p used in let within : from + length new ≤ length known.all = omega (arith, fits, known.long) in record {
               own = record o { object = put o.object p (Some (with_range known.all from new)); viewed = put o.viewed p true };
               is = is_writing m law o is p (used_own m p used) from new known.all views.0 known.is within;
-              knows = plainly m.honest m.number o (Mutator m.number (Write p from new)) Done (record o { object = put o.object p (Some (with_range known.all from new)); viewed = put o.viewed p true }) (is.opened ∙ opened, (known.all, known.is, (some, within), refl)) (λ _. tt);
+              knows = plainly m.honest m.number o (Mutator m.number (On p (Writes from new))) Done (record o { object = put o.object p (Some (with_range known.all from new)); viewed = put o.viewed p true }) (is.opened ∙ opened, (known.all, known.is, (some, within), refl)) (λ _. tt);
               tells = tt;
             });
             short = tt;
@@ -328,30 +302,30 @@ whole out items n e = subst (λ k. take k (out ++ drop (length out) items) ≡ o
 module _ {heap : HeapId} (m : Mine) (law : MineLaw m) (opened : m.opened ≡ true) (p from : ℕ) where
   module _ (count : ℕ) (a : Access) (is : IsReached m p from count a) (n : Mine) where
     pub unread_at : (why : Refusal) → IsNoView m a.pointer why → Asks a.pointer m n → (why ≡ Damaged → m.honest ≡ false) → why ≢ Memory → (uses m a.pointer ≡ true → IsToldOf heap a.pointer why)
-        → Answers heap m (Read p from count) (Refused why) n
+        → Answers heap m (On p (Reads from count)) (Refused why) n
     unread_at why failed asks honestly never cause =
-        unread m law opened p n why (subst (λ q. IsNoView m q why) is.0 failed) (subst (λ q. Asks q m n) is.0 asks) honestly never
-        (subst (λ q. uses m q ≡ true → IsToldOf heap q why) is.0 cause) is.3 from count is.4 is.5
+        unreached m law opened p n why (subst (λ q. IsNoView m q why) is.0 failed) (subst (λ q. Asks q m n) is.0 asks) honestly never
+        (subst (λ q. uses m q ≡ true → IsToldOf heap q why) is.0 cause) is.3 (Reads from count) (λ all long. (is.4, omega (arith, is.5, long)))
 
     -- the room has as many bytes as were asked for
     pub read_at : (v buffer k : ℕ) (out items : List ℕ) (later : Mine) → AsksToView a.pointer m n → v ≡ a.pointer → buffer ≡ a.count → length out ≡ buffer → k ≡ buffer → later ≡ n
-        → IfSome (bytes_in n v) (λ all. out ≡ slice_range all a.from (a.from + buffer)) → Answers heap m (Read p from count) (Data (take k (out ++ drop (length out) items))) later
+        → IfSome (bytes_in n v) (λ all. out ≡ slice_range all a.from (a.from + buffer)) → Answers heap m (On p (Reads from count)) (Data (take k (out ++ drop (length out) items))) later
     read_at v buffer k out items later views at many long wide same are =
         let there = subst (λ q. IfSome (bytes_in n q) (λ all. out ≡ slice_range all a.from (a.from + buffer))) (at ∙ is.0) are in
         let begun = subst (λ f. IfSome (bytes_in n p) (λ all. out ≡ slice_range all f (f + buffer))) is.1 there in
         let ended = subst (λ c. IfSome (bytes_in n p) (λ all. out ≡ slice_range all from (from + c))) (many ∙ is.2) begun in
-        subst (λ (z : Mine). Answers heap m (Read p from count) (Data (take k (out ++ drop (length out) items))) z) (sym same)
-        (subst (λ bytes. Answers heap m (Read p from count) (Data bytes) n) (sym (whole out items k (long ∙ sym wide)))
+        subst (λ (z : Mine). Answers heap m (On p (Reads from count)) (Data (take k (out ++ drop (length out) items))) z) (sym same)
+        (subst (λ bytes. Answers heap m (On p (Reads from count)) (Data bytes) n) (sym (whole out items k (long ∙ sym wide)))
         (has_read m law opened p is.3 n (subst (λ q. AsksToView q m n) is.0 views) from count out is.4 is.5 (long ∙ many ∙ is.2) ended))
 
   module _ (new : List ℕ) (a : Access) (is : IsReached m p from (length new) a) (n : Mine) where
     pub unwritten_at : (why : Refusal) → IsNoView m a.pointer why → Asks a.pointer m n → (why ≡ Damaged → m.honest ≡ false) → why ≢ Memory → (uses m a.pointer ≡ true → IsToldOf heap a.pointer why)
-        → Answers heap m (Write p from new) (Refused why) n
+        → Answers heap m (On p (Writes from new)) (Refused why) n
     unwritten_at why failed asks honestly never cause =
-        unwritten m law opened p n why (subst (λ q. IsNoView m q why) is.0 failed) (subst (λ q. Asks q m n) is.0 asks) honestly never
-        (subst (λ q. uses m q ≡ true → IsToldOf heap q why) is.0 cause) is.3 from new is.4 is.5
+        unreached m law opened p n why (subst (λ q. IsNoView m q why) is.0 failed) (subst (λ q. Asks q m n) is.0 asks) honestly never
+        (subst (λ q. uses m q ≡ true → IsToldOf heap q why) is.0 cause) is.3 (Writes from new) (λ all long. (is.4, omega (arith, is.5, long)))
 
-    pub written_at : (v : ℕ) (later : Mine) → AsksToView a.pointer m n → v ≡ a.pointer → later ≡ writing v a.from new n → Answers heap m (Write p from new) Done later
+    pub written_at : (v : ℕ) (later : Mine) → AsksToView a.pointer m n → v ≡ a.pointer → later ≡ writing v a.from new n → Answers heap m (On p (Writes from new)) Done later
     written_at v later views at e =
         has_written m law opened p is.3 n (subst (λ q. AsksToView q m n) is.0 views) from later new is.4 is.5
         (e ∙ ap (λ q. writing q a.from new n) (at ∙ is.0) ∙ ap (λ f. writing p f new n) is.1)

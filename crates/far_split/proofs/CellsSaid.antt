@@ -30,7 +30,7 @@ use Rattle.far_heap.specs.BookHad.{BookDid, BookHad, HasNowhere, HasRoom, LacksR
 use Rattle.far_heap.specs.Helping.{cell_in, says_far}
 use Rattle.far_heap.specs.HeapId.{HeapId}
 use Rattle.far_heap.specs.Mine.{IsSlow}
-use Rattle.far_text.specs.Command.{Book, Close, Command, Drop, Epoch, Evacuator, Mutator, New, Open, Read, Try, View, Where, Write}
+use Rattle.far_text.specs.Command.{Book, Close, Command, Drop, Epoch, Evacuator, Mutator, New, Open, On, Try, Where}
 use Rattle.far_replay.specs.Alone.{Knows}
 use Rattle.far_alone.specs.Own.{Own}
 use Rattle.far_reply.specs.Reply.{Pointer, Refused, Reply}
@@ -245,11 +245,7 @@ cells_so heap m o (Mutator k (New len structure)) (Refused why) told = (
       (subst (λ (w : Refusal). TellsOfHeap heap m o (Mutator k (New len structure)) (Refused w)) (is_two why e) told),
   λ e. had_so (NoneFree m) (HasNoCell m) (λ s is. is) (subst (λ (w : Refusal). TellsOfHeap heap m o (Mutator k (New len structure)) (Refused w)) (is_three why e) told),
 )
-cells_so heap m o (Mutator k (Read p from len)) (Refused why) told =
-    says_why heap p (λ (w : Refusal). TellsOfHeap heap m o (Mutator k (Read p from len)) (Refused w)) (λ t. t) (λ t. t) (λ t. t) why told
-cells_so heap m o (Mutator k (Write p from bytes)) (Refused why) told =
-    says_why heap p (λ (w : Refusal). TellsOfHeap heap m o (Mutator k (Write p from bytes)) (Refused w)) (λ t. t) (λ t. t) (λ t. t) why told
-cells_so heap m o (Mutator k (View p)) (Refused why) told = says_why heap p (λ (w : Refusal). TellsOfHeap heap m o (Mutator k (View p)) (Refused w)) (λ t. t) (λ t. t) (λ t. t) why told
+cells_so heap m o (Mutator k (On p how)) (Refused why) told = says_why heap p (λ (w : Refusal). TellsOfHeap heap m o (Mutator k (On p how)) (Refused w)) (λ t. t) (λ t. t) (λ t. t) why told
 cells_so heap m o (Mutator k (Try p)) (Refused (Marked word)) told = let x = words_of_objects heap m o k p word told in (length x.0, x.2)
 cells_so heap m o c r told = tt
 
@@ -263,12 +259,10 @@ mutators_told_so heap m o (c ∷ cs) (r ∷ rs) (q, knows, tells, later) = (cell
 knows_none : (m : ℕ) (o : Own) (c : Command) (q : Own) → Knows m o c (Refused Memory) q → ⊥
 knows_none m o (Mutator k (New len structure)) q knows = knows
 knows_none m o (Mutator k Open) q knows = knows
-knows_none m o (Mutator k (Write p from bytes)) q knows = knows
-knows_none m o (Mutator k (Read p from len)) q knows = knows
+knows_none m o (Mutator k (On p how)) q knows = knows
 knows_none m o (Mutator k Close) q knows = knows
 knows_none m o (Mutator k (Where p)) q knows = knows
 knows_none m o (Mutator k (Drop p)) q knows = knows
-knows_none m o (Mutator k (View p)) q knows = knows
 knows_none m o (Mutator k (Try p)) q knows = knows
 knows_none m o (Mutator k Epoch) q knows = knows
 knows_none m o (Book inquiry) q knows = knows

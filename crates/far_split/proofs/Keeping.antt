@@ -3,7 +3,7 @@ use Rattle.std.proofs.Common.{◌≡◌, ℕ, zero, suc, ◌+◌, ◌-◌, ◌<�
 use Rattle.std.specs.Prelude.{◌==◌, IsTrue, ◌↔◌}
 use Rattle.std.proofs.lemmas.Bool.{false≢true, ne_eqb}
 use Rattle.std.specs.List.{slice_range}
-use Rattle.std.proofs.lemmas.List.{drop-append-le, get_or_append_left, get_or-map, get_or_push, length-drop, length-take, map-append, take-append-le}
+use Rattle.std.proofs.lemmas.List.{drop-append-le, get_or_append_left, get_or_push, length-drop, length-take, map-append, take-append-le}
 use Rattle.std.proofs.Math.Nat.{min-le_left}
 use Rattle.std.proofs.Math.Seq.{drop-append_seam}
 use Rattle.far_reply.specs.declared.reply.LogLine.{LogLine}
@@ -108,9 +108,6 @@ pub kept_at : (bytes logs ends : ℕ) (ks : List Kept) (i : ℕ) (k : Kept) → 
 kept_at bytes logs ends [] i k are lt is = absurd (omega arith)
 kept_at bytes logs ends (x ∷ ks) zero k are lt is = subst (IsKept bytes logs ends) (sym is) are.0
 kept_at bytes logs ends (x ∷ ks) (suc i) k are lt is = kept_at bytes logs ends ks i k are.1 (omega arith) is
-
-pub reply_at : (f : Kept → Reply) (ks : List Kept) (i : ℕ) (k : Kept) (other : Reply) → i < length ks → k ≡ get_or ks i k → get_or (map f ks) i other ≡ f k
-reply_at f ks i k other lt is = get_or-map f ks i k other lt ∙ ap f (sym is)
 
 -- ---- logs' lines
 pub length-lines_told : (first : ℕ) (rows : List LogWords) → length (lines_told first rows) ≡ length rows

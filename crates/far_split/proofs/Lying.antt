@@ -5,8 +5,8 @@ use Rattle.std.proofs.lemmas.Option.{none-some}
 use Rattle.far_word.specs.declared.refused.Refused.TheVariants.{Closed, Damaged, Device, NoRoom, NotHeld, Range}
 use Rattle.far_core.specs.state.State.{put}
 use Rattle.far_core.proofs.Put.{put_same}
-use Rattle.far_text.specs.Command.{Mutator, Read, View, Write}
-use Rattle.far_replay.specs.Alone.{IsIn, IsOut}
+use Rattle.far_text.specs.Command.{Mutator, On, Use, Reads, Writes, Views}
+use Rattle.far_replay.specs.Alone.{FitsIn, IsIn, IsOut, PassesEnd}
 use Rattle.far_alone.specs.Own.{Own}
 use Rattle.far_replay.proofs.Fronts.{range_length}
 use Rattle.far_split.specs.Served.{ReadsAreAsLong, RefusalsAreLawful}
@@ -35,28 +35,25 @@ module _ (o : Own) (p k : ℕ) (same : k ≡ p) (old new : List ℕ) (had : o.ob
   still_in : (from count : ℕ) → (all : List ℕ) × (with_others k ≡ Some all) × IsIn all from count → (all : List ℕ) × (o.object k ≡ Some all) × IsIn all from count
   still_in from count (all, is, (some, fits)) = (old, was, (some, omega (arith, fits, as_long all is)))
 
+  still_past : (how : Use) → (all : List ℕ) × (with_others k ≡ Some all) × PassesEnd all how → (all : List ℕ) × (o.object k ≡ Some all) × PassesEnd all how
+  still_past (Reads from len) has = still_out from len has
+  still_past (Writes from bytes) has = still_out from (length bytes) has
+  still_past Views has = absurd has.2
+
+  still_fits : (how : Use) → (all : List ℕ) × (with_others k ≡ Some all) × FitsIn all how → (all : List ℕ) × (o.object k ≡ Some all) × FitsIn all how
+  still_fits (Reads from len) has = still_in from len has
+  still_fits (Writes from bytes) has = still_in from (length bytes) has
+  still_fits Views has = (old, was, tt)
+
 pub refusals_lawful : RefusalsAreLawful
 refusals_lawful m o c why q (inl knows) = (q, knows)
-refusals_lawful m o (Mutator j (Read k from len)) Closed q (inr g) = (o, (g.knows.0, refl))
-refusals_lawful m o (Mutator j (Read k from len)) NotHeld q (inr g) = absurd (never_none o g.p k g.asks.1 g.old g.new g.had g.long g.knows.1)
-refusals_lawful m o (Mutator j (Read k from len)) Range q (inr g) = (o, (g.knows.0, refl, still_out o g.p k g.asks.1 g.old g.new g.had g.long from len g.knows.2))
-refusals_lawful m o (Mutator j (Read k from len)) NoRoom q (inr g) = (o, (g.knows.0, g.knows.1, refl, still_in o g.p k g.asks.1 g.old g.new g.had g.long from len g.knows.3))
-refusals_lawful m o (Mutator j (Read k from len)) Device q (inr g) = (o, (g.knows.0, g.knows.1, refl, still_in o g.p k g.asks.1 g.old g.new g.had g.long from len g.knows.3))
-refusals_lawful m o (Mutator j (Read k from len)) Damaged q (inr g) = (o, (g.knows.0, g.knows.1, refl, still_in o g.p k g.asks.1 g.old g.new g.had g.long from len g.knows.3))
-refusals_lawful m o (Mutator j (Write k from bytes)) Closed q (inr g) = (o, (g.knows.0, refl))
-refusals_lawful m o (Mutator j (Write k from bytes)) NotHeld q (inr g) = absurd (never_none o g.p k g.asks.1 g.old g.new g.had g.long g.knows.1)
-refusals_lawful m o (Mutator j (Write k from bytes)) Range q (inr g) = (o, (g.knows.0, refl, still_out o g.p k g.asks.1 g.old g.new g.had g.long from (length bytes) g.knows.2))
-refusals_lawful m o (Mutator j (Write k from bytes)) NoRoom q (inr g) = (o, (g.knows.0, g.knows.1, refl, still_in o g.p k g.asks.1 g.old g.new g.had g.long from (length bytes) g.knows.3))
-refusals_lawful m o (Mutator j (Write k from bytes)) Device q (inr g) = (o, (g.knows.0, g.knows.1, refl, still_in o g.p k g.asks.1 g.old g.new g.had g.long from (length bytes) g.knows.3))
-refusals_lawful m o (Mutator j (Write k from bytes)) Damaged q (inr g) = (o, (g.knows.0, g.knows.1, refl, still_in o g.p k g.asks.1 g.old g.new g.had g.long from (length bytes) g.knows.3))
-refusals_lawful m o (Mutator j (View k)) Closed q (inr g) = (o, (g.knows.0, refl))
-refusals_lawful m o (Mutator j (View k)) NotHeld q (inr g) = absurd (never_none o g.p k g.asks.1 g.old g.new g.had g.long g.knows.1)
-refusals_lawful m o (Mutator j (View k)) NoRoom q (inr g) = (o, (g.knows.0, g.knows.1, refl, (g.old, was o g.p k g.asks.1 g.old g.new g.had g.long)))
-refusals_lawful m o (Mutator j (View k)) Device q (inr g) = (o, (g.knows.0, g.knows.1, refl, (g.old, was o g.p k g.asks.1 g.old g.new g.had g.long)))
-refusals_lawful m o (Mutator j (View k)) Damaged q (inr g) = (o, (g.knows.0, g.knows.1, refl, (g.old, was o g.p k g.asks.1 g.old g.new g.had g.long)))
-refusals_lawful m o (Mutator j (Read k from len)) why q (inr g) = absurd g.knows
-refusals_lawful m o (Mutator j (Write k from bytes)) why q (inr g) = absurd g.knows
-refusals_lawful m o (Mutator j (View k)) why q (inr g) = absurd g.knows
+refusals_lawful m o (Mutator j (On k how)) Closed q (inr g) = (o, (g.knows.0, refl))
+refusals_lawful m o (Mutator j (On k how)) NotHeld q (inr g) = absurd (never_none o g.p k g.asks.1 g.old g.new g.had g.long g.knows.1)
+refusals_lawful m o (Mutator j (On k how)) Range q (inr g) = (o, (g.knows.0, refl, still_past o g.p k g.asks.1 g.old g.new g.had g.long how g.knows.2))
+refusals_lawful m o (Mutator j (On k how)) NoRoom q (inr g) = (o, (g.knows.0, g.knows.1, refl, still_fits o g.p k g.asks.1 g.old g.new g.had g.long how g.knows.3))
+refusals_lawful m o (Mutator j (On k how)) Device q (inr g) = (o, (g.knows.0, g.knows.1, refl, still_fits o g.p k g.asks.1 g.old g.new g.had g.long how g.knows.3))
+refusals_lawful m o (Mutator j (On k how)) Damaged q (inr g) = (o, (g.knows.0, g.knows.1, refl, still_fits o g.p k g.asks.1 g.old g.new g.had g.long how g.knows.3))
+refusals_lawful m o (Mutator j (On k how)) why q (inr g) = absurd g.knows
 refusals_lawful m o c why q (inr g) = absurd g.asks
 
 part_long : (all bytes : List ℕ) (from len : ℕ) → IsIn all from len → bytes ≡ slice_range all from (from + len) → length bytes ≡ len

@@ -16,7 +16,7 @@ use Rattle.far_table.specs.BookSeats.{seat_view}
 use Rattle.far_evac.specs.EvacOf.{EvacOf}
 use Rattle.far_heap.specs.BookHad.{BookDid, BookHad}
 use Rattle.far_heap.specs.HeapId.{HeapId}
-use Rattle.far_text.specs.Command.{Command, Mutator, New, Read, Try, View, Write}
+use Rattle.far_text.specs.Command.{Command, Mutator, New, On, Try}
 use Rattle.far_alone.specs.Own.{Own}
 use Rattle.far_reply.specs.Reply.{Reply, Pointer, Refused}
 use Rattle.far_split.specs.FarSides.{FarReads, FarSide}
@@ -87,9 +87,7 @@ IsFarOrMarked len word = ((structure : ℕ) × (marks : Marks) × (read_of word 
 abbrev pub IsToldOfCells : HeapId → ℕ → Command → Reply → Type 0
 IsToldOfCells heap m (Mutator _ (New len structure)) (Pointer p) = BookHad FarSide heap (HasPlace m len p)
 IsToldOfCells heap m (Mutator _ (New len structure)) (Refused why) = (refusal_number why ≡ 2 → BookHad FarSide heap (HasCellAlone m len)) × (refusal_number why ≡ 3 → BookHad FarSide heap (HasNoCell m))
-IsToldOfCells heap m (Mutator _ (Read p from len)) (Refused why) = SaysWhy heap p why
-IsToldOfCells heap m (Mutator _ (Write p from bytes)) (Refused why) = SaysWhy heap p why
-IsToldOfCells heap m (Mutator _ (View p)) (Refused why) = SaysWhy heap p why
+IsToldOfCells heap m (Mutator _ (On p how)) (Refused why) = SaysWhy heap p why
 IsToldOfCells heap m (Mutator _ (Try p)) (Refused (Marked word)) = (len : ℕ) × IsFarOrMarked len word
 IsToldOfCells heap m c r = Unit {0}
 

@@ -7,7 +7,7 @@ use Rattle.far_core.specs.state.State.{put}
 use Rattle.far_heap.specs.BookHad.{BookHad, HasRoom, IsAnswered, LacksRoom, NoneFree, Unbrought}
 use Rattle.far_heap.specs.HeapId.{HeapId}
 use Rattle.far_heap.specs.Mine.{IsSlow}
-use Rattle.far_text.specs.Command.{Command, Mutator, New, Read, Try, View, Write}
+use Rattle.far_text.specs.Command.{Command, Mutator, New, On, Try}
 use Rattle.far_replay.specs.Alone.{Alone, Knows, is_by, speaker}
 use Rattle.far_alone.specs.Own.{Own}
 use Rattle.far_replay.specs.Commanded.{AsksFor}
@@ -58,15 +58,9 @@ abbrev pub TellsOfHeap : HeapId → ℕ → Own → Command → Reply → Type 0
 TellsOfHeap heap m o (Mutator _ (New len ds)) (Pointer p) = BookHad FarSide heap (HasRoom m len p)
 TellsOfHeap heap m o (Mutator _ (New len ds)) (Refused NoPointer) = BookHad FarSide heap (NoneFree m)
 TellsOfHeap heap m o (Mutator _ (New len ds)) (Refused NoRoom) = BookHad FarSide heap (LacksRoom m len)
-TellsOfHeap heap m o (Mutator _ (Read p from len)) (Refused NoRoom) = IsToldOf heap p NoRoom
-TellsOfHeap heap m o (Mutator _ (Read p from len)) (Refused Device) = IsToldOf heap p Device
-TellsOfHeap heap m o (Mutator _ (Read p from len)) (Refused Damaged) = IsToldOf heap p Damaged
-TellsOfHeap heap m o (Mutator _ (Write p from new)) (Refused NoRoom) = IsToldOf heap p NoRoom
-TellsOfHeap heap m o (Mutator _ (Write p from new)) (Refused Device) = IsToldOf heap p Device
-TellsOfHeap heap m o (Mutator _ (Write p from new)) (Refused Damaged) = IsToldOf heap p Damaged
-TellsOfHeap heap m o (Mutator _ (View p)) (Refused NoRoom) = IsToldOf heap p NoRoom
-TellsOfHeap heap m o (Mutator _ (View p)) (Refused Device) = IsToldOf heap p Device
-TellsOfHeap heap m o (Mutator _ (View p)) (Refused Damaged) = IsToldOf heap p Damaged
+TellsOfHeap heap m o (Mutator _ (On p how)) (Refused NoRoom) = IsToldOf heap p NoRoom
+TellsOfHeap heap m o (Mutator _ (On p how)) (Refused Device) = IsToldOf heap p Device
+TellsOfHeap heap m o (Mutator _ (On p how)) (Refused Damaged) = IsToldOf heap p Damaged
 TellsOfHeap heap m o (Mutator _ (Try p)) (Refused (Marked word)) = (all : List ℕ) × (o.object p ≡ Some all) × IsWordOf all word
 TellsOfHeap heap m o c r = Unit {0}
 

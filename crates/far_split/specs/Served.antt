@@ -2,7 +2,7 @@
 use Rattle.std.specs.Prelude.{◌≡◌, ℕ, true, false, List, ◌∷◌, ◌++◌, length}
 use Rattle.far_word.specs.declared.refused.Refused.{Refused as Refusal}
 use Rattle.far_word.specs.Refused.{refusal_number}
-use Rattle.far_text.specs.Command.{Command, Mutator, Read}
+use Rattle.far_text.specs.Command.{Command, Mutator, On, Reads}
 use Rattle.far_replay.specs.Alone.{Knows}
 use Rattle.far_alone.specs.Own.{Own}
 use Rattle.far_reply.specs.Reply.{Reply, Data, Refused}
@@ -22,4 +22,4 @@ RefusalsAreLawful = (m : ℕ) (o : Own) (c : Command) (why : Refusal) (q : Own) 
 
 -- and a read gives as many bytes as it asks for
 abbrev pub ReadsAreAsLong : Type 0
-ReadsAreAsLong = (m : ℕ) (o : Own) (k p from len : ℕ) (bytes : List ℕ) (q : Own) → KnowsHere false m o (Mutator k (Read p from len)) (Data bytes) q → length bytes ≡ len
+ReadsAreAsLong = (m : ℕ) (o : Own) (k p from len : ℕ) (bytes : List ℕ) (q : Own) → KnowsHere false m o (Mutator k (On p (Reads from len))) (Data bytes) q → length bytes ≡ len

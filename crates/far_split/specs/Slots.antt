@@ -5,7 +5,7 @@ use Rattle.far_word.specs.declared.refused.Refused.TheVariants.{Length, NotHeld,
 use Rattle.far_word.specs.declared.sizes.TheConstants.{LONGEST}
 use Rattle.far_heap.specs.HeapId.{HeapId}
 use Rattle.far_heap.specs.Mine.{Mine, Object, len_in, object_of, uses, views}
-use Rattle.far_text.specs.Command.{Mutator, Request, Close, Read, Try, View, Write}
+use Rattle.far_text.specs.Command.{Mutator, Request, Close, On, Try}
 use Rattle.far_alone.specs.Own.{Own}
 use Rattle.far_reply.specs.Reply.{IsShort, Reply, Logs}
 use Rattle.far_split.specs.Here.{KnowsHere, TellsOfHeap}
@@ -37,9 +37,7 @@ TellsNoLogs r = Unit {0}
 -- a request that wants an open scope
 abbrev pub needs_scope : Request → Bool
 needs_scope Close = true
-needs_scope (Read p from len) = true
-needs_scope (Write p from bytes) = true
-needs_scope (View p) = true
+needs_scope (On p how) = true
 needs_scope (Try p) = true
 needs_scope request = false
 

@@ -1,7 +1,7 @@
 //! A mutator between two of its lines, and how its requests are made by the heap's calls.
 
 ghost use Rattle.std.specs.Prelude.{◌≡◌, true, false, IfOk};
-ghost use Rattle.far_text.specs.Command.{as_request, Drop, New, Open, Read, Try, View, Write};
+ghost use Rattle.far_text.specs.Command.{as_request, Drop, New, Open, On, Reads, Writes, Views, Try};
 ghost use Rattle.far_text.specs.Threads.{is_own};
 ghost use Rattle.far_split.specs.Slots.{Answers, mine_in, needs_scope};
 ghost use Rattle.far_split.specs.Told.{as_reply};
@@ -96,7 +96,7 @@ fn drop_open<K: HeapName, R: Wait>(rt: &R, scope: &mut Scope<K, FarSide>, pointe
 
 // Views an object, wherever it is.
 fn view<K: HeapName, R: Wait>(rt: &R, scope: &mut Scope<K, FarSide>, pointer: u64) -> Answer
-    ensures { Answers K.heap scope.old (View pointer) (as_reply result) scope.new }
+    ensures { Answers K.heap scope.old (On pointer Views) (as_reply result) scope.new }
 {
     scope.keeps_law();
     let Some(pointer) = pointer_of(pointer) else {
@@ -132,7 +132,7 @@ fn read<K: HeapName, R: Wait>(
     from: u64,
     len: u64,
 ) -> Result<Answer, AllocError>
-    ensures { IfOk result (λ told. Answers K.heap scope.old (Read pointer from len) (as_reply told) scope.new) }
+    ensures { IfOk result (λ told. Answers K.heap scope.old (On pointer (Reads from len)) (as_reply told) scope.new) }
 {
     scope.keeps_law();
     let access = match reach(scope, pointer, from, len) {
@@ -158,7 +158,7 @@ fn write<K: HeapName, R: Wait>(
     from: u64,
     bytes: &[u8],
 ) -> Answer
-    ensures { Answers K.heap scope.old (Write pointer from bytes.now) (as_reply result) scope.new }
+    ensures { Answers K.heap scope.old (On pointer (Writes from bytes.now)) (as_reply result) scope.new }
 {
     scope.keeps_law();
     let access = match reach(scope, pointer, from, bytes.len() as u64) {

@@ -70,10 +70,6 @@ copier_stays id later here v v' taking finishing e r w i same t =
 pub copier_made : (v v' : View) (old : CopierView) (e : CopierView → Event) (r : Reply) (w : CopierView) → copier_of v ≡ old → CopierTells v v' (e (copier_of v)) r w → CopierMade (e old) old r (copier_of v')
 copier_made v v' old e r w is t = subst (λ z. CopierMade (e z) z r (copier_of v')) is (subst (λ z. CopierMade (e (copier_of v)) (copier_of v) r z) (sym (ap copier_of t.after_is)) t.made)
 
--- the seat as a caller sees it
-abbrev pub seated : TableId → View → CopierSeated
-seated id v = record { table = id; view = copier_of v }
-
 -- ---- looks
 -- what looks have found is all that changes
 looked_on : (v u w : CopierView) (rows : List (ℕ × ℕ)) → OnlyLooked v u → w ≡ record u { seen = rows } → OnlyLooked v w

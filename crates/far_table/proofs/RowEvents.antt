@@ -14,7 +14,7 @@ use Rattle.far_table.specs.View.{OwnerView}
 use Rattle.far_table.specs.RowTells.{LoadedEach, StoredEach, row_view}
 use Rattle.far_table.specs.Tells.{OwnerMade}
 use Rattle.far_table.specs.Views.{stored_view}
-use Rattle.far_table.proofs.WholeWords.{put_below, put_inside, whole_padding}
+use Rattle.far_table.proofs.WholeWords.{whole_padding}
 
 -- ---- words of bytes
 -- equal bytes are equal words
@@ -24,11 +24,6 @@ same_word xs ys i j h =
     let there : 8 * j + 0 ≡ 8 * j = omega arith in
     let first : get_or xs (8 * i) 0 ≡ get_or ys (8 * j) 0 = ap (λ k. get_or xs k 0) (sym here) ∙ h 0 (omega arith) ∙ ap (λ k. get_or ys k 0) there in
     omega (arith, first, h 1 (omega arith), h 2 (omega arith), h 3 (omega arith), h 4 (omega arith), h 5 (omega arith), h 6 (omega arith), h 7 (omega arith))
-
--- a part of a list
-pub part_words : (bs : List ℕ) (at m a n : ℕ) → at ≡ 8 * a → 8 * n ≤ m → (k : ℕ) → k < n → packed_word (take m (drop at bs)) k ≡ packed_word bs (a + k)
-part_words bs at m a n begin fits k lt = same_word (take m (drop at bs)) bs k (a + k)
-    (λ q few. let e : at + (8 * k + q) ≡ 8 * (a + k) + q = omega arith in get_or-take m (drop at bs) (8 * k + q) 0 (omega arith) ∙ get_or-drop at bs (8 * k + q) 0 ∙ ap (λ z. get_or bs z 0) e)
 
 -- a word that is read of a list
 pub read_packed : (bs xs : List ℕ) (i w : ℕ) → 8 * i + 8 ≤ length bs → xs ≡ take (length bs - 8 * i) (drop (8 * i) bs) → w ≡ little_number 8 xs → w ≡ packed_word bs i
@@ -65,17 +60,6 @@ loaded_more p first i w bs buf o wide fits is before made j lt =
       | inl e ↦ subst (λ (z : ℕ × ℕ). OwnerMade (Load o.number p (first + z.0)) o (Word z.1) o) (λ k. (sym e k, sym (ap (packed_word new) e ∙ written_word bs buf i w wide fits is) k)) made
       | inr ne ↦ subst (λ z. OwnerMade (Load o.number p (first + j)) o (Word z) o) (sym (written_other bs buf i w wide fits is j ne)) (before j (omega arith))
     ]
-
--- some words more, whose bytes are written over some of the list's
-pub loaded_part : (p first next a n at m : ℕ) (bs buf : List ℕ) (o : OwnerView) → next ≡ first + a → at ≡ 8 * a → m ≡ 8 * n → at + m ≤ length bs → length buf ≡ m → LoadedEach p first (packed_word bs) a o →
-    LoadedEach p next (packed_word buf) n o → (j : ℕ) → j < a + n → OwnerMade (Load o.number p (first + j)) o (Word (packed_word (put_mid at m bs buf) j)) o
-loaded_part p first next a n at m bs buf o there begin count fits long before more j lt = elim (cases_lt j a) [
-  | inl low ↦ subst (λ z. OwnerMade (Load o.number p (first + j)) o (Word z) o) (sym (same_word (put_mid at m bs buf) bs j j (λ k few. put_below at m bs buf long fits (8 * j + k) (omega arith)))) (before j low)
-  | inr high ↦ (let e : next + (j - a) ≡ first + j = omega arith in
-      let same : packed_word (put_mid at m bs buf) j ≡ packed_word buf (j - a) = same_word (put_mid at m bs buf) buf j (j - a)
-      (λ k few. let at_k : 8 * j + k - at ≡ 8 * (j - a) + k = omega arith in put_inside at m bs buf long fits (8 * j + k) (omega arith) (omega arith) ∙ ap (λ q. get_or buf q 0) at_k) in
-      subst (λ (z : ℕ × ℕ). OwnerMade (Load o.number p z.0) o (Word z.1) o) (λ k. (e k, sym same k)) (more (j - a) (omega arith)))
-]
 
 -- ---- stores
 row_number : (p first : ℕ) (row : ℕ → ℕ) (n : ℕ) (o : OwnerView) → (row_view p first row n o).number ≡ o.number

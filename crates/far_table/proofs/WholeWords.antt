@@ -163,25 +163,37 @@ read_whole bs xs i w small fits part read k lt =
 pub whole_padding : (w len i : ℕ) → w < 2 ^ 64 → 8 * i + 8 ≤ len → w < 2 ^ (8 * (len - 8 * i))
 whole_padding w len i wide fits = let room : 64 ≤ 8 * (len - 8 * i) = omega arith in let more : 2 ^ 64 ≤ 2 ^ (8 * (len - 8 * i)) = pow_mono room in omega (arith, wide, more)
 
+-- one word is stored
+eight_of : (bs : List ℕ) (i : ℕ) → 8 * i + 8 ≤ length bs → length (take 8 (drop (8 * i) bs)) ≡ 8
+eight_of bs i fits = length-take-le 8 (drop (8 * i) bs) (omega (arith, length-drop (8 * i) bs))
+
+byte_of : (bs : List ℕ) (i k : ℕ) → k < 8 → get_or (take 8 (drop (8 * i) bs)) k 0 ≡ get_or bs (8 * i + k) 0
+byte_of bs i k lt = get_or-take 8 (drop (8 * i) bs) k 0 lt ∙ get_or-drop (8 * i) bs k 0
+
+pub word_wrote : (p first i w : ℕ) (bs xs : List ℕ) (u : OwnerView) → ((k : ℕ) → get_or bs k 0 < 256) → 8 * i + 8 ≤ length bs → 8 * (first + i) + 8 ≤ len_of (object_at u p) →
+    xs ≡ take (length bs - 8 * i) (drop (8 * i) bs) → w ≡ little_number 8 xs → Wrote p (8 * (first + i)) (take 8 (drop (8 * i) bs)) u (stored_view p (first + i) w u)
+word_wrote p first i w bs xs u small fits room part read =
+    let ys : List ℕ = take 8 (drop (8 * i) bs) in
+    let eight : length ys ≡ 8 = eight_of bs i fits in
+    let from : ℕ = 8 * (first + i) in
+    let zero_at : from % 8 ≡ 0 = omega arith in
+    stored_wrote u p (first + i) w from ys (omega arith) (omega arith) (omega arith) (omega arith)
+    (λ _ k lt. let few : k < 8 = omega arith in let e : k ≡ from % 8 + k = omega arith in byte_of bs i k few ∙ sym (read_whole bs xs i w small fits part read k few) ∙ ap (byte_at (λ _. w)) e)
+    (λ _ k lt. absurd (omega arith)) (λ _ k le lt _. absurd (omega arith))
+
 -- one word more is stored
-pub whole_wrote : (p first i w : ℕ) (bs xs : List ℕ) (o u : OwnerView) → ((k : ℕ) → get_or bs k 0 < 256) → 8 * i + 8 ≤ length bs → 8 * first + length bs ≤ len_of (object_at o p) →
+pub whole_wrote : (p first i w : ℕ) (bs xs : List ℕ) (o u : OwnerView) → ((k : ℕ) → get_or bs k 0 < 256) → 8 * i + 8 ≤ length bs → 8 * (first + i) + 8 ≤ len_of (object_at u p) →
     xs ≡ take (length bs - 8 * i) (drop (8 * i) bs) → w ≡ little_number 8 xs → Wrote p (8 * first) (take (8 * i) bs) o u → Wrote p (8 * first) (take (8 * (i + 1)) bs) o (stored_view p (first + i) w u)
 whole_wrote p first i w bs xs o u small fits room part read before =
     let ys : List ℕ = take 8 (drop (8 * i) bs) in
-    let eight : length ys ≡ 8 = length-take-le 8 (drop (8 * i) bs) (omega (arith, length-drop (8 * i) bs)) in
+    let eight : length ys ≡ 8 = eight_of bs i fits in
     let low : length (take (8 * i) bs) ≡ 8 * i = length-take-le (8 * i) bs (omega arith) in
     let high : length (take (8 * (i + 1)) bs) ≡ 8 * (i + 1) = length-take-le (8 * (i + 1)) bs (omega arith) in
-    let byte : (k : ℕ) → k < 8 → get_or ys k 0 ≡ get_or bs (8 * i + k) 0 = (λ k lt. get_or-take 8 (drop (8 * i) bs) k 0 lt ∙ get_or-drop (8 * i) bs k 0) in
     let len : len_of (object_at u p) ≡ len_of (object_at o p) = before.len in
-    let from : ℕ = 8 * (first + i) in
-    let zero_at : from % 8 ≡ 0 = omega arith in
-    let last : Wrote p from ys u (stored_view p (first + i) w u) = stored_wrote u p (first + i) w from ys (omega arith) (omega arith) (omega arith) (omega arith)
-    (λ _ k lt. let few : k < 8 = omega arith in let e : k ≡ from % 8 + k = omega arith in byte k few ∙ sym (read_whole bs xs i w small fits part read k few) ∙ ap (byte_at (λ _. w)) e)
-    (λ _ k lt. absurd (omega arith)) (λ _ k le lt _. absurd (omega arith)) in
-    wrote_join p (8 * first) from (take (8 * i) bs) ys (take (8 * (i + 1)) bs) o u (stored_view p (first + i) w u) (omega arith) (omega arith) (omega arith)
+    wrote_join p (8 * first) (8 * (first + i)) (take (8 * i) bs) ys (take (8 * (i + 1)) bs) o u (stored_view p (first + i) w u) (omega arith) (omega arith) (omega arith)
     (λ k lt. get_or-take (8 * (i + 1)) bs k 0 (omega arith) ∙ sym (get_or-take (8 * i) bs k 0 (omega arith)))
-    (λ k lt. let e : length (take (8 * i) bs) + k ≡ 8 * i + k = omega arith in get_or-take (8 * (i + 1)) bs (length (take (8 * i) bs) + k) 0 (omega arith) ∙ ap (λ q. get_or bs q 0) e ∙ sym (byte k (omega arith)))
-    before last
+    (λ k lt. let e : length (take (8 * i) bs) + k ≡ 8 * i + k = omega arith in get_or-take (8 * (i + 1)) bs (length (take (8 * i) bs) + k) 0 (omega arith) ∙ ap (λ q. get_or bs q 0) e ∙ sym (byte_of bs i k (omega arith)))
+    before (word_wrote p first i w bs xs u small fits room part read)
 
 -- one word more is loaded
 pub whole_read : (f : ℕ → ℕ) (first i w : ℕ) (bs buf : List ℕ) → 8 * i + 8 ≤ length bs → buf ≡ bytes_low_first 0 8 w ++ drop 8 (take (length bs - 8 * i) (drop (8 * i) bs)) → w ≡ f (first + i) →
@@ -197,27 +209,6 @@ whole_read f first i w bs buf fits word found before k lt =
           put_inside (8 * i) (length bs - 8 * i) bs buf all (omega arith) k high (omega arith) ∙ word_byte w (k - 8 * i) buf (drop 8 left) word (omega arith)
           ∙ ap (byte_at (λ _. w)) at ∙ in_row f w (first + i) (8 * first + k) found (omega arith))
     ]
-
--- ---- whole words, some at a time
--- some more are loaded
-pub part_read : (f : ℕ → ℕ) (from next at n : ℕ) (bs buf : List ℕ) → at + n ≤ length bs → next ≡ from + at → length buf ≡ n → ((k : ℕ) → k < at → get_or bs k 0 ≡ byte_at f (from + k)) → HasBytes f next buf →
-    (k : ℕ) → k < at + n → get_or (put_mid at n bs buf) k 0 ≡ byte_at f (from + k)
-part_read f from next at n bs buf fits there long before here k lt = elim (cases_lt k at) [
-  | inl low ↦ put_below at n bs buf long fits k low ∙ before k low
-  | inr high ↦ (let e : next + (k - at) ≡ from + k = omega arith in put_inside at n bs buf long fits k high lt ∙ (here (k - at) (omega arith) ∙ ap (byte_at f) e))
-]
-
--- some more are stored
-pub part_wrote : (p from next at n : ℕ) (bs ys zs : List ℕ) (o u v : OwnerView) → at + n ≤ length bs → from + length bs ≤ len_of (object_at o p) → next ≡ from + at → ys ≡ take n (drop at bs) →
-    length zs ≡ at + n → ((k : ℕ) → k < at + n → get_or zs k 0 ≡ get_or bs k 0) → Wrote p from (take at bs) o u → Wrote p next ys u v → Wrote p from zs o v
-part_wrote p from next at n bs ys zs o u v fits room there part all same before last =
-    let low : length (take at bs) ≡ at = length-take-le at bs (omega arith) in
-    let long : length ys ≡ n = ap length part ∙ length-take-le n (drop at bs) (omega (arith, length-drop at bs)) in
-    wrote_join p from next (take at bs) ys zs o u v (omega arith) (omega arith) (omega arith)
-    (λ k lt. same k (omega arith) ∙ sym (get_or-take at bs k 0 (omega arith)))
-    (λ k lt. let e : length (take at bs) + k ≡ at + k = omega arith in ap (λ q. get_or zs q 0) e ∙ same (at + k) (omega arith)
-    ∙ sym (ap (λ xs. get_or xs k 0) part ∙ get_or-take n (drop at bs) k 0 (omega arith) ∙ get_or-drop at bs k 0))
-    before last
 
 -- ---- what is held stays so
 pub places_wrote : (p from : ℕ) (bytes places : List ℕ) (o o' : OwnerView) → Wrote p from bytes o o' → HasPlaces o places → HasPlaces o' places

@@ -97,8 +97,3 @@ refused_tells b b' e logs same is last h =
 pub seat_told : {D : Type 0} (s t : BookSeat D) (e : Event) (r : Reply) → seat_makes s e r t → ∥ Tells (seat_may_be s) (seat_may_be t) e r ∥₁
 seat_told s t e Refused m = ∥∥₁_map s.stands (λ (h : Stands (book_in s)). refused_tells (book_in s) (book_in t) e m.1 (ap book_in m.0) m.2 m.3 h)
 seat_told s t e r m = ∣ made_tells (book_in s) (book_in t) e r m.1 ∣₁
-
--- a call of a seat leaves it of its table
-pub same_table : {D : Type 0} (s t : BookSeat D) (e : Event) (r : Reply) → seat_makes s e r t → table_of t ≡ table_of s
-same_table s t e Refused m = ap table_of m.0
-same_table s t e r m = m.0

@@ -23,3 +23,4 @@ pub mod Viewed
 pub mod Whole
 pub mod Ranges
 pub mod RowTells
+pub mod SeatRows

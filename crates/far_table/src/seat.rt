@@ -26,13 +26,13 @@ ghost use Rattle.far_word.specs.Sizes.{words_for};
 
 use crate::layout::{EPOCH, LINE, SCOPES};
 use crate::rule::FarTable;
-use crate::seat_rows::{load_all, store_all};
+use crate::seat_rows::{load_row, store_row};
 use crate::view::View;
 use crate::{layout, rule};
 use atomic_table::Seat;
-use far_core::{Core, Event, Reply};
+use far_core::{Core, Event, Reply, in_use};
 use far_device::Device;
-use far_word::{CELLS, LOG_WORDS, Mark, Place, PtrWord, resting_place};
+use far_word::{CELLS, LOG_WORDS, Mark, Place, resting_place};
 use std::alloc::{AllocError, Global};
 use std::marker::Model;
 use std::sync::Arc;
@@ -266,14 +266,9 @@ impl<D: Device> MutSeat<D> {
         ensures bytes { self.old.view.honest ≡ true → HasBytes (word_in_view (object_at self.old.view p)) (8 * first) out.new }
         ensures events { LoadedEach p first (packed_word out.new) (length out.old / 8) self.old.view }
     {
-        load_all::<D>(
-            &self.table.shared,
-            &mut self.seat,
-            &self.places,
-            p,
-            first,
-            out,
-        );
+        let first = first as usize;
+        let begin = self.places[(p % CELLS) as usize] as usize + first;
+        load_row::<D>(&self.table.shared, &mut self.seat, p, first, begin, out);
     }
 
     /// Words of an object that is held and soiled, from word `first` on, are these bytes from then on, a multiple of 8, the low byte of each first. Each word
@@ -288,14 +283,9 @@ impl<D: Device> MutSeat<D> {
         ensures wrote { Wrote p (8 * first) bytes.now self.old.view self.new.view }
         ensures events { StoredEach p first (packed_word bytes.now) (length bytes.now / 8) self.old.view self.new.view }
     {
-        store_all::<D>(
-            &self.table.shared,
-            &mut self.seat,
-            &self.places,
-            p,
-            first,
-            bytes,
-        );
+        let first = first as usize;
+        let begin = self.places[(p % CELLS) as usize] as usize + first;
+        store_row::<D>(&self.table.shared, &mut self.seat, p, first, begin, bytes);
     }
 
     /// Uses a pointer of the owner's own from then on, whose cell is near or far without DROP: the word found. `None` if the word found is free or has DROP; then
@@ -312,7 +302,7 @@ impl<D: Device> MutSeat<D> {
             .table
             .shared
             .load::<rule::Adopt>(&mut self.seat, p as usize + layout::CELLS);
-        if is_in_use(found) { Some(found) } else { None }
+        if in_use(found) { Some(found) } else { None }
     }
 
     /// Sets `mark`, which is MOVE or DROP, in the cell of an object that is used and not held: the word found there. After DROP the owner uses the object no longer.
@@ -329,16 +319,5 @@ impl<D: Device> MutSeat<D> {
         self.table
             .shared
             .fetch_or::<rule::Ask>(&mut self.seat, p as usize + layout::CELLS, mark.mask())
-    }
-}
-
-// Whether a cell is used and not dropped.
-fn is_in_use(cell: u64) -> bool
-    requires { IsSome (read_of cell) }
-    ensures { result ≡ in_use (read_of cell) }
-{
-    match PtrWord::known(cell) {
-        PtrWord::Near { marks, .. } | PtrWord::Far { marks, .. } => !marks.dropped,
-        PtrWord::Free => false,
     }
 }

@@ -62,7 +62,3 @@ decoded_is u w new n r (Ok bytes) is twice some most h =
     let all : decode_of w ≡ Ok bytes = sym (decode_sized-twice w n twice) ∙ is in
     rw (h.0, h.1) (spelled_is_hex w bytes (all, omega (arith, decode_of-ok w bytes all), most))
 decoded_is u w new n r (Err e) is twice some most h = rw h (not_decoded w e (sym (decode_sized-twice w n twice) ∙ is))
-
--- a word in hex has two digits a byte
-pub twice_as_long : (w bytes : List ℕ) → bytes_in w ≡ Some bytes → length w ≡ 2 * length bytes
-twice_as_long w bytes e = let ok = decode_of-ok w bytes (hex_is_spelled w bytes e).0 in omega (arith, ok)

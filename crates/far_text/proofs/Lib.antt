@@ -10,7 +10,6 @@ pub mod Reading
 pub mod RecordLemmas
 pub mod SaysLemmas
 pub mod Scripts
-pub mod Searches
 pub mod SplitLaws
 pub mod SplitReading
 pub mod TextLaws

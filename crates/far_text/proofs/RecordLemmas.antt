@@ -3,12 +3,11 @@ use Rattle.std.proofs.Common.{◌≡◌, ℕ, zero, suc, ◌+◌, ◌-◌, ◌<�
 use Rattle.std.specs.List.{slice_range}
 use Rattle.std.specs.Option.{option_map}
 use Rattle.std.proofs.lemmas.List.{take-append-drop, take-append-le, drop-append-le, length-drop, length-take, get_or_past, take_all, length-take-le, append_assoc}
-use Rattle.std.proofs.Math.Seq.{drop-append_seam}
 use Rattle.std.proofs.lemmas.Bool.{cases_lt}
 use Rattle.std.proofs.Math.Nat.{min-le_left}
 use Rattle.hex.specs.Hex.{IsBytes}
 use Rattle.far_text.proofs.Parts.{range_get}
-use Rattle.far_text.specs.Command.{Command, Mutator, Write, Evacuator, Select, Script}
+use Rattle.far_text.specs.Command.{Command, Mutator, On, Writes, Evacuator, Select, Script}
 use Rattle.far_text.specs.Records.{number_in, command_in, step_in, IsWithin, IsStepWithin, AreWithin}
 use Rattle.far_text.specs.Written.{WritesBytes, ChoosesFew}
 use Rattle.far_text.specs.declared.commands.Record.{Record}
@@ -25,11 +24,6 @@ put_in_front buffer new rest len n fits long =
     ap (take (len + n)) (sym (append_assoc (take len buffer) new rest))
     ∙ take-append-le (len + n) (take len buffer ++ new) rest (omega arith)
     ∙ take_all (len + n) (take len buffer ++ new) (omega arith)
-
--- those are the last of it
-pub put_last : (buffer new rest : List ℕ) (len n m : ℕ) → len ≤ length buffer → length new ≡ n → m ≡ len → drop m (take (len + n) (take len buffer ++ (new ++ rest))) ≡ new
-put_last buffer new rest len n m fits long same =
-    ap (drop m) (put_in_front buffer new rest len n fits long) ∙ ap (λ k. drop k (take len buffer ++ new)) (same ∙ sym (length-take-le len buffer fits)) ∙ drop-append_seam (take len buffer) new
 
 -- more bytes behind leave each record its command
 module _ (old new : List ℕ) (kept : take (length old) new ≡ old) where
@@ -60,7 +54,7 @@ module _ (old new : List ℕ) (kept : take (length old) new ≡ old) where
   command_stays : (r : Record) → IsWithin (length old) r → command_in new r ≡ command_in old r
   command_stays (NewRecord m len ds) h = refl
   command_stays (OpenRecord m) h = refl
-  command_stays (WriteRecord m p from start count) h = ap (λ b. Mutator (number_in m) (Write (number_in p) (number_in from) b)) (part_stays start count h)
+  command_stays (WriteRecord m p from start count) h = ap (λ b. Mutator (number_in m) (On (number_in p) (Writes (number_in from) b))) (part_stays start count h)
   command_stays (ReadRecord m p from len) h = refl
   command_stays (CloseRecord m) h = refl
   command_stays (WhereRecord m p) h = refl

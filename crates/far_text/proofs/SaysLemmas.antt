@@ -7,7 +7,7 @@ use Rattle.std.proofs.lemmas.Bool.Decides.{Decides-ltb}
 use Rattle.std.proofs.lemmas.List.{length-map}
 use Rattle.hex.specs.Hex.{IsBytes}
 use Rattle.std.proofs.lemmas.Slice.Eq.{bytes_eq-Decides}
-use Rattle.far_text.specs.Command.{Entry, HeapLine, DeviceLine, Flawed, Flaw, Fail, Short, Flip, CommandLine, New, Open, Write, Read, Close, Where, Drop, View, Try, Epoch, Logs, Log, Audit, Mutator, Book, Evacuator, Policy, Oldest, LeastLive, By, Script, Step, Select, Mark, Wait, Evacuate, Abort, Round}
+use Rattle.far_text.specs.Command.{Entry, HeapLine, DeviceLine, Flawed, Flaw, Fail, Short, Flip, CommandLine, New, Open, On, Reads, Writes, Views, Close, Where, Drop, Try, Epoch, Logs, Log, Audit, Mutator, Book, Evacuator, Policy, Oldest, LeastLive, By, Script, Step, Select, Mark, Wait, Evacuate, Abort, Round}
 use Rattle.far_text.specs.declared.hex_word.TheConstants.{LONGEST_BYTES}
 use Rattle.far_text.specs.Says.{Says, Spells, AreLogs, flaw_name, policy_name}
 use Rattle.far_text.specs.Grammar.{says_heap, asks_read, asks_write, asks_open, asks_close, asks_new, asks_where, asks_drop, asks_view, asks_try, asks_epoch, asks_log, asks_mark, asks_evacuate, asks_select, asks_round, asks_script, select_by, round_by, device_by, flaw_of, says_device, policy_of, log_of, each_log, logs_of, limited, step_line, perhaps, From, Operands, Numbers, NumbersAndOneOr, NumbersAndBytes, WordThen, number_of, bytes_in, next_number, last_bytes, numbers_then, one_or, entry_at_end, entry_from, steps, table, found_in, entry_of, ◌>>=◌}
@@ -44,8 +44,8 @@ no_script Oldest = refl
 no_script LeastLive = refl
 
 pub said_is_read : (words : List (List ℕ)) (c : Entry) → Says words c → entry_of words ≡ Some c
-said_is_read words (CommandLine (Mutator m (Read p f l))) h = ap entry_of h.0 ∙ rw (number_is (decimal m) m h.1 refl, number_is (decimal p) p h.2 refl, number_is (decimal f) f h.3 refl, number_is (decimal l) l h.4 refl) refl
-said_is_read words (CommandLine (Mutator m (Write p f b))) h = ap entry_of h.1 ∙ rw (number_is (decimal m) m h.2 refl, number_is (decimal p) p h.3 refl, number_is (decimal f) f h.4 refl, spelled_is_hex h.0 b h.5) refl
+said_is_read words (CommandLine (Mutator m (On p (Reads f l)))) h = ap entry_of h.0 ∙ rw (number_is (decimal m) m h.1 refl, number_is (decimal p) p h.2 refl, number_is (decimal f) f h.3 refl, number_is (decimal l) l h.4 refl) refl
+said_is_read words (CommandLine (Mutator m (On p (Writes f b)))) h = ap entry_of h.1 ∙ rw (number_is (decimal m) m h.2 refl, number_is (decimal p) p h.3 refl, number_is (decimal f) f h.4 refl, spelled_is_hex h.0 b h.5) refl
 said_is_read words (CommandLine (Mutator m Open)) h = ap entry_of h.0 ∙ rw (number_is (decimal m) m h.1 refl) refl
 said_is_read words (CommandLine (Mutator m Close)) h = ap entry_of h.0 ∙ rw (number_is (decimal m) m h.1 refl) refl
 said_is_read words (CommandLine (Mutator m (New l k))) h = ap entry_of h.0 ∙ rw (number_is (decimal m) m h.1 refl, number_is (decimal l) l h.2 refl, number_is (decimal k) k h.3 refl) refl
@@ -55,7 +55,7 @@ said_is_read words (HeapLine l m e) (inr h, first, second, third) =
 said_is_read words (DeviceLine (Flawed flaw call)) h = ap entry_of h.0 ∙ rw (flaw_read flaw, number_is (decimal call) call h.1 refl) refl
 said_is_read words (CommandLine (Mutator m (Where p))) h = ap entry_of h.0 ∙ rw (number_is (decimal m) m h.1 refl, number_is (decimal p) p h.2 refl) refl
 said_is_read words (CommandLine (Mutator m (Drop p))) h = ap entry_of h.0 ∙ rw (number_is (decimal m) m h.1 refl, number_is (decimal p) p h.2 refl) refl
-said_is_read words (CommandLine (Mutator m (View p))) h = ap entry_of h.0 ∙ rw (number_is (decimal m) m h.1 refl, number_is (decimal p) p h.2 refl) refl
+said_is_read words (CommandLine (Mutator m (On p Views))) h = ap entry_of h.0 ∙ rw (number_is (decimal m) m h.1 refl, number_is (decimal p) p h.2 refl) refl
 said_is_read words (CommandLine (Mutator m (Try p))) h = ap entry_of h.0 ∙ rw (number_is (decimal m) m h.1 refl, number_is (decimal p) p h.2 refl) refl
 said_is_read words (CommandLine (Mutator m Epoch)) h = ap entry_of h.0 ∙ rw (number_is (decimal m) m h.1 refl) refl
 said_is_read words (CommandLine (Book Logs)) h = ap entry_of h
@@ -160,6 +160,22 @@ numbers_and_bytes n make words c e =
 abbrev IsSaid : List ℕ × Operands → Type 0
 IsSaid row = (words : List (List ℕ)) (c : Entry) → entry_from row.1 words ≡ Some c → Says (row.0 ∷ words) c
 
+-- a name alone; a name and a number; a name and two
+alone_said : (name : List ℕ) (made : Entry) → ((words : List (List ℕ)) → words ≡ name ∷ [] → Says words made) → IsSaid (name, Numbers 0 made)
+alone_said name made says words c e =
+    let (t, b, is, same) = numbers_only 0 made words c e in
+    subst (Says (name ∷ words)) same (says (name ∷ words) (ap (λ ws. name ∷ ws) is))
+
+one_said : (name : List ℕ) (make : From 1 Entry) → ((words : List (List ℕ)) (m : ℕ) → (words ≡ name ∷ decimal m ∷ []) × (m < 2 ^ 64) → Says words (make m)) → IsSaid (name, Numbers 1 make)
+one_said name make says words c e =
+    let (t, b, is, same) = numbers_only 1 make words c e in
+    subst (Says (name ∷ words)) same (says (name ∷ words) t.0 (ap (λ ws. name ∷ ws) is, b.0))
+
+two_said : (name : List ℕ) (make : From 2 Entry) → ((words : List (List ℕ)) (m p : ℕ) → (words ≡ name ∷ decimal m ∷ decimal p ∷ []) × (m < 2 ^ 64) × (p < 2 ^ 64) → Says words (make m p)) → IsSaid (name, Numbers 2 make)
+two_said name make says words c e =
+    let (t, b, is, same) = numbers_only 2 make words c e in
+    subst (Says (name ∷ words)) same (says (name ∷ words) t.0 t.1.0 (ap (λ ws. name ∷ ws) is, b.0, b.1.0))
+
 read_said : IsSaid (codes "read", Numbers 4 asks_read)
 read_said words c e =
     let (t, b, is, same) = numbers_only 4 asks_read words c e in
@@ -169,16 +185,6 @@ write_said : IsSaid (codes "write", NumbersAndBytes 3 asks_write)
 write_said words c e =
     let (t, word, bytes, b, spells, is, same) = numbers_and_bytes 3 asks_write words c e in
     subst (Says (codes "write" ∷ words)) same (word, ap (λ ws. codes "write" ∷ ws) is, b.0, b.1.0, b.1.1.0, spells)
-
-open_said : IsSaid (codes "open", Numbers 1 asks_open)
-open_said words c e =
-    let (t, b, is, same) = numbers_only 1 asks_open words c e in
-    subst (Says (codes "open" ∷ words)) same (ap (λ ws. codes "open" ∷ ws) is, b.0)
-
-close_said : IsSaid (codes "close", Numbers 1 asks_close)
-close_said words c e =
-    let (t, b, is, same) = numbers_only 1 asks_close words c e in
-    subst (Says (codes "close" ∷ words)) same (ap (λ ws. codes "close" ∷ ws) is, b.0)
 
 new_said : IsSaid (codes "new", Numbers 3 asks_new)
 new_said words c e =
@@ -196,67 +202,7 @@ heap_said words c e =
     ] in
     subst (Says (codes "heap" ∷ words)) same (said, b.0, b.1.0, small)
 
-logs_said : IsSaid (codes "logs", Numbers 0 (CommandLine (Book Logs)))
-logs_said words c e =
-    let (t, b, is, same) = numbers_only 0 (CommandLine (Book Logs)) words c e in
-    subst (Says (codes "logs" ∷ words)) same (ap (λ ws. codes "logs" ∷ ws) is)
-
-where_said : IsSaid (codes "where", Numbers 2 asks_where)
-where_said words c e =
-    let (t, b, is, same) = numbers_only 2 asks_where words c e in
-    subst (Says (codes "where" ∷ words)) same (ap (λ ws. codes "where" ∷ ws) is, b.0, b.1.0)
-
-drop_said : IsSaid (codes "drop", Numbers 2 asks_drop)
-drop_said words c e =
-    let (t, b, is, same) = numbers_only 2 asks_drop words c e in
-    subst (Says (codes "drop" ∷ words)) same (ap (λ ws. codes "drop" ∷ ws) is, b.0, b.1.0)
-
-try_said : IsSaid (codes "try", Numbers 2 asks_try)
-try_said words c e =
-    let (t, b, is, same) = numbers_only 2 asks_try words c e in
-    subst (Says (codes "try" ∷ words)) same (ap (λ ws. codes "try" ∷ ws) is, b.0, b.1.0)
-
-view_said : IsSaid (codes "view", Numbers 2 asks_view)
-view_said words c e =
-    let (t, b, is, same) = numbers_only 2 asks_view words c e in
-    subst (Says (codes "view" ∷ words)) same (ap (λ ws. codes "view" ∷ ws) is, b.0, b.1.0)
-
-epoch_said : IsSaid (codes "epoch", Numbers 1 asks_epoch)
-epoch_said words c e =
-    let (t, b, is, same) = numbers_only 1 asks_epoch words c e in
-    subst (Says (codes "epoch" ∷ words)) same (ap (λ ws. codes "epoch" ∷ ws) is, b.0)
-
-log_said : IsSaid (codes "log", Numbers 1 asks_log)
-log_said words c e =
-    let (t, b, is, same) = numbers_only 1 asks_log words c e in
-    subst (Says (codes "log" ∷ words)) same (ap (λ ws. codes "log" ∷ ws) is, b.0)
-
-audit_said : IsSaid (codes "audit", Numbers 0 (CommandLine (Book Audit)))
-audit_said words c e =
-    let (t, b, is, same) = numbers_only 0 (CommandLine (Book Audit)) words c e in
-    subst (Says (codes "audit" ∷ words)) same (ap (λ ws. codes "audit" ∷ ws) is)
-
 -- ---- the steps
-mark_said : IsSaid (codes "mark", Numbers 1 asks_mark)
-mark_said words c e =
-    let (t, b, is, same) = numbers_only 1 asks_mark words c e in
-    subst (Says (codes "mark" ∷ words)) same (ap (λ ws. codes "mark" ∷ ws) is, b.0)
-
-wait_said : IsSaid (codes "wait", Numbers 0 (CommandLine (Evacuator Wait)))
-wait_said words c e =
-    let (t, b, is, same) = numbers_only 0 (CommandLine (Evacuator Wait)) words c e in
-    subst (Says (codes "wait" ∷ words)) same (ap (λ ws. codes "wait" ∷ ws) is)
-
-evacuate_said : IsSaid (codes "evacuate", Numbers 1 asks_evacuate)
-evacuate_said words c e =
-    let (t, b, is, same) = numbers_only 1 asks_evacuate words c e in
-    subst (Says (codes "evacuate" ∷ words)) same (ap (λ ws. codes "evacuate" ∷ ws) is, b.0)
-
-abort_said : IsSaid (codes "abort", Numbers 0 (CommandLine (Evacuator Abort)))
-abort_said words c e =
-    let (t, b, is, same) = numbers_only 0 (CommandLine (Evacuator Abort)) words c e in
-    subst (Says (codes "abort" ∷ words)) same (ap (λ ws. codes "abort" ∷ ws) is)
-
 -- a word that is read as a policy is its name
 policy_only : (word : List ℕ) (policy : Policy) → policy_of word ≡ Some policy → word ≡ policy_name policy
 policy_only word policy e = elim (chosen (bytes_eq word (codes "oldest")) _ _ (Some policy) e) [
@@ -400,10 +346,46 @@ device_said (word ∷ words) c e =
     subst (Says (codes "device" ∷ word ∷ words)) made (ap (λ w. codes "device" ∷ w ∷ words) name ∙ ap (λ ws. codes "device" ∷ flaw_name flaw ∷ ws) is, b.0)
 
 steps_said : Each IsSaid steps
-steps_said = (select_said, (mark_said, (wait_said, (evacuate_said, (abort_said, (round_said, tt))))))
+steps_said = (
+  select_said,
+  (one_said (codes "mark") asks_mark (λ words m is. is), (alone_said (codes "wait") (CommandLine (Evacuator Wait)) (λ words is. is), (one_said (codes "evacuate") asks_evacuate (λ words m is. is), (alone_said (codes "abort") (CommandLine (Evacuator Abort)) (λ words is. is), (round_said, tt))))),
+)
 
 rows_said : Each IsSaid table
-rows_said = (read_said, (write_said, (open_said, (close_said, (new_said, (heap_said, (logs_said, (where_said, (drop_said, (view_said, (try_said, (epoch_said, (log_said, (audit_said, (device_said, steps_said)))))))))))))))
+rows_said = (
+  read_said,
+  (
+    write_said,
+    (
+      one_said (codes "open") asks_open (λ words m is. is),
+      (
+        one_said (codes "close") asks_close (λ words m is. is),
+        (
+          new_said,
+          (
+            heap_said,
+            (
+              alone_said (codes "logs") (CommandLine (Book Logs)) (λ words is. is),
+              (
+                two_said (codes "where") asks_where (λ words m p is. is),
+                (
+                  two_said (codes "drop") asks_drop (λ words m p is. is),
+                  (
+                    two_said (codes "view") asks_view (λ words m p is. is),
+                    (
+                      two_said (codes "try") asks_try (λ words m p is. is),
+                      (one_said (codes "epoch") asks_epoch (λ words m is. is), (one_said (codes "log") asks_log (λ words m is. is), (alone_said (codes "audit") (CommandLine (Book Audit)) (λ words is. is), (device_said, steps_said)))),
+                    ),
+                  ),
+                ),
+              ),
+            ),
+          ),
+        ),
+      ),
+    ),
+  ),
+)
 
 -- words that begin with a command's name
 named : (name word : List ℕ) (args : List (List ℕ)) (c : Entry) → bytes_eq name word ≡ true → Says (word ∷ args) c → Says (name ∷ args) c

@@ -4,7 +4,7 @@ use Rattle.std.specs.Prelude.{◌↔◌}
 use Rattle.std.proofs.lemmas.Bool.{and_parts, le-leb, lt-leb, cond_both}
 use Rattle.std.proofs.lemmas.Bool.Decides.{nat_tests}
 use Rattle.far_text.specs.declared.text.TheConstants.{LONGEST_TEXT}
-use Rattle.far_text.specs.Command.{Command, Device, HeapLine, DeviceLine, CommandLine, Heap, Request, New, Open, Write, Read, Close, Where, Drop, View, Try, Epoch, Mutator, Book, Evacuator, Select, Mark, Wait, Evacuate, Abort, Round}
+use Rattle.far_text.specs.Command.{Command, Device, HeapLine, DeviceLine, CommandLine, Heap, Request, New, Open, On, Close, Where, Drop, Try, Epoch, Mutator, Book, Evacuator, Select, Mark, Wait, Evacuate, Abort, Round}
 use Rattle.far_text.specs.Grammar.{Line, Skipped, Saying, Bad, beside, line_of, lines_of, trace_of}
 use Rattle.far_text.specs.HeapSought.{Found, NoHeap, HeapAt, found_at, heap_sought}
 use Rattle.far_text.specs.Split.{SplitTrace, NothingSplit, SplitHeap, threaded, onto_lines, threaded_onto, split_command, split_commands, with_lines, split_after, split_from, split_of}
@@ -17,12 +17,10 @@ use Rattle.far_text.proofs.TextLaws.{bad_beside, beside_is, is_beside, passed_is
 own_from : (request : Request) → ((p : ℕ) → request ≢ Where p) → request ≢ Epoch → is_own request ≡ true
 own_from (New len structure) here now = refl
 own_from Open here now = refl
-own_from (Write p from bytes) here now = refl
-own_from (Read p from len) here now = refl
+own_from (On p how) here now = refl
 own_from Close here now = refl
 own_from (Where p) here now = absurd (here p refl)
 own_from (Drop p) here now = refl
-own_from (View p) here now = refl
 own_from (Try p) here now = refl
 own_from Epoch here now = absurd (now refl)
 

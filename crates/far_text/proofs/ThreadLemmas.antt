@@ -3,7 +3,7 @@ use Rattle.std.proofs.Common.{◌≡◌, ℕ, Bool, true, false, cond, Option, S
 use Rattle.std.proofs.lemmas.Bool.{cond_both}
 use Rattle.std.specs.Option.{option_map, option_and_then}
 use Rattle.std.proofs.lemmas.Option.{none-some, same_Some}
-use Rattle.far_text.specs.Command.{Command, Mutator, Book, Evacuator, Request, New, Open, Write, Read, Close, Where, Drop, View, Try, Epoch, Step, Select, Mark, Wait, Evacuate, Abort, Round, as_command, as_request, as_inquiry, as_step, as_policy}
+use Rattle.far_text.specs.Command.{Command, Mutator, Book, Evacuator, Request, New, Open, On, Reads, Writes, Views, Close, Where, Drop, Try, Epoch, Step, Select, Mark, Wait, Evacuate, Abort, Round, as_command, as_request, as_inquiry, as_step, as_policy}
 use Rattle.far_text.specs.Spelled.{command_spelled, request_spelled, step_spelled, choice_spelled}
 use Rattle.far_text.specs.Grammar.{bytes_in, limited}
 use Rattle.far_text.specs.Split.{threaded}
@@ -28,12 +28,12 @@ limited_some most o step = cond_both (nat_le most MOST_CHOSEN) o None (λ (x : O
 request_kept : (s : SpelledRequest) (request : Request) → request_spelled s ≡ Some request → is_own request ≡ is_own (as_request s)
 request_kept (SpelledNew len structure) request e = ap is_own (sym (same_Some (New len structure) request e))
 request_kept SpelledOpen request e = ap is_own (sym (same_Some Open request e))
-request_kept (SpelledWrite pointer from word) request e = ap is_own (sym (mapped (Write pointer from) (bytes_in word.now) request e).2)
-request_kept (SpelledRead pointer from len) request e = ap is_own (sym (same_Some (Read pointer from len) request e))
+request_kept (SpelledWrite pointer from word) request e = ap is_own (sym (mapped (λ bytes. On pointer (Writes from bytes)) (bytes_in word.now) request e).2)
+request_kept (SpelledRead pointer from len) request e = ap is_own (sym (same_Some (On pointer (Reads from len)) request e))
 request_kept SpelledClose request e = ap is_own (sym (same_Some Close request e))
 request_kept (SpelledWhere pointer) request e = ap is_own (sym (same_Some (Where pointer) request e))
 request_kept (SpelledDrop pointer) request e = ap is_own (sym (same_Some (Drop pointer) request e))
-request_kept (SpelledView pointer) request e = ap is_own (sym (same_Some (View pointer) request e))
+request_kept (SpelledView pointer) request e = ap is_own (sym (same_Some (On pointer Views) request e))
 request_kept (SpelledTry pointer) request e = ap is_own (sym (same_Some (Try pointer) request e))
 request_kept SpelledEpoch request e = ap is_own (sym (same_Some Epoch request e))
 

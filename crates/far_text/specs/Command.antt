@@ -16,16 +16,20 @@ use Rattle.far_text.specs.declared.command.Request.TheVariants.{New as SpelledNe
 use Rattle.far_text.specs.declared.command.Step.{Step as SpelledStep}
 use Rattle.far_text.specs.declared.command.Step.TheVariants.{Select as SpelledSelect, Mark as SpelledMark, Wait as SpelledWait, Evacuate as SpelledEvacuate, Abort as SpelledAbort, Round as SpelledRound}
 
+-- what a mutator does with an object that is brought to it
+pub data Use : Type 0 where
+  Reads : (from len : ℕ) → Use
+  Writes : (from : ℕ) (bytes : List ℕ) → Use
+  Views : Use
+
 -- what a mutator asks for
 pub data Request : Type 0 where
   New : (len structure : ℕ) → Request
   Open : Request
-  Write : (pointer from : ℕ) (bytes : List ℕ) → Request
-  Read : (pointer from len : ℕ) → Request
+  On : (pointer : ℕ) (how : Use) → Request
   Close : Request
   Where : (pointer : ℕ) → Request
   Drop : (pointer : ℕ) → Request
-  View : (pointer : ℕ) → Request
   Try : (pointer : ℕ) → Request
   Epoch : Request
 
@@ -84,12 +88,12 @@ pub data Trace : Type 0 where
 abbrev pub as_request : SpelledRequest → Request
 as_request (SpelledNew len structure) = New len structure
 as_request SpelledOpen = Open
-as_request (SpelledWrite pointer from bytes) = Write pointer from bytes.now
-as_request (SpelledRead pointer from len) = Read pointer from len
+as_request (SpelledWrite pointer from bytes) = On pointer (Writes from bytes.now)
+as_request (SpelledRead pointer from len) = On pointer (Reads from len)
 as_request SpelledClose = Close
 as_request (SpelledWhere pointer) = Where pointer
 as_request (SpelledDrop pointer) = Drop pointer
-as_request (SpelledView pointer) = View pointer
+as_request (SpelledView pointer) = On pointer Views
 as_request (SpelledTry pointer) = Try pointer
 as_request SpelledEpoch = Epoch
 

@@ -4,7 +4,7 @@ use Rattle.std.specs.Str.{bytes_eq}
 use Rattle.std.specs.Str.Parse.{digits_value}
 use Rattle.std.specs.List.{slice_split, list_all}
 use Rattle.std.specs.Option.{option_map, option_and_then}
-use Rattle.far_text.specs.Command.{Command, Entry, HeapLine, DeviceLine, Device, Flawed, Flaw, Fail, Short, Flip, CommandLine, Trace, Nothing, Heap, New, Open, Write, Read, Close, Where, Drop, View, Try, Epoch, Logs, Log, Audit, Mutator, Book, Evacuator, Policy, Oldest, LeastLive, By, Script, Step, Select, Mark, Wait, Evacuate, Abort, Round}
+use Rattle.far_text.specs.Command.{Command, Entry, HeapLine, DeviceLine, Device, Flawed, Flaw, Fail, Short, Flip, CommandLine, Trace, Nothing, Heap, New, Open, On, Reads, Writes, Views, Close, Where, Drop, Try, Epoch, Logs, Log, Audit, Mutator, Book, Evacuator, Policy, Oldest, LeastLive, By, Script, Step, Select, Mark, Wait, Evacuate, Abort, Round}
 use Rattle.far_text.specs.HexWord.{is_hex_word, hex_bytes}
 use Rattle.far_text.specs.declared.command.TheConstants.{MOST_CHOSEN, LOG_NAMES}
 use Rattle.far_text.specs.declared.hex_word.TheConstants.{LONGEST_LINE, LONGEST_BYTES}
@@ -83,10 +83,10 @@ entry_from (WordThen make) words = word_then make words
 -- ---- the lines by their names
 -- a mutator's number stands before what it asks for
 abbrev pub asks_read : From 4 Entry
-asks_read m p from len = CommandLine (Mutator m (Read p from len))
+asks_read m p from len = CommandLine (Mutator m (On p (Reads from len)))
 
 abbrev pub asks_write : From 3 (List ℕ → Entry)
-asks_write m p from bytes = CommandLine (Mutator m (Write p from bytes))
+asks_write m p from bytes = CommandLine (Mutator m (On p (Writes from bytes)))
 
 abbrev pub asks_open : From 1 Entry
 asks_open m = CommandLine (Mutator m Open)
@@ -104,7 +104,7 @@ abbrev pub asks_drop : From 2 Entry
 asks_drop m p = CommandLine (Mutator m (Drop p))
 
 abbrev pub asks_view : From 2 Entry
-asks_view m p = CommandLine (Mutator m (View p))
+asks_view m p = CommandLine (Mutator m (On p Views))
 
 abbrev pub asks_try : From 2 Entry
 asks_try m p = CommandLine (Mutator m (Try p))

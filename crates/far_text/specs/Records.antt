@@ -1,6 +1,6 @@
 -- What stands in the records of commands.
 use Rattle.std.specs.Prelude.{ℕ, ◌+◌, ◌*◌, ◌≤◌, ◌^◌, List, [], ◌∷◌, slice_range}
-use Rattle.far_text.specs.Command.{Command, Mutator, Book, New, Open, Write, Read, Close, Where, Drop, View, Try, Epoch, Logs, Log, Audit, Evacuator, By, Script, Step, Select, Mark, Wait, Evacuate, Abort, Round, as_policy}
+use Rattle.far_text.specs.Command.{Command, Mutator, Book, New, Open, On, Reads, Writes, Views, Close, Where, Drop, Try, Epoch, Logs, Log, Audit, Evacuator, By, Script, Step, Select, Mark, Wait, Evacuate, Abort, Round, as_policy}
 use Rattle.far_text.specs.declared.command.TheConstants.{MOST_CHOSEN}
 use Rattle.far_text.specs.declared.number.Number.{Number}
 use Rattle.far_text.specs.declared.commands.Record.{Record}
@@ -26,12 +26,12 @@ abbrev pub command_in : List ℕ → Record → Command
 command_in bytes (NewRecord mutator len structure) = Mutator (number_in mutator) (New (number_in len) (number_in structure))
 command_in bytes (OpenRecord mutator) = Mutator (number_in mutator) Open
 command_in bytes (WriteRecord mutator pointer from start count) =
-    Mutator (number_in mutator) (Write (number_in pointer) (number_in from) (slice_range bytes start (start + count)))
-command_in bytes (ReadRecord mutator pointer from len) = Mutator (number_in mutator) (Read (number_in pointer) (number_in from) (number_in len))
+    Mutator (number_in mutator) (On (number_in pointer) (Writes (number_in from) (slice_range bytes start (start + count))))
+command_in bytes (ReadRecord mutator pointer from len) = Mutator (number_in mutator) (On (number_in pointer) (Reads (number_in from) (number_in len)))
 command_in bytes (CloseRecord mutator) = Mutator (number_in mutator) Close
 command_in bytes (WhereRecord mutator pointer) = Mutator (number_in mutator) (Where (number_in pointer))
 command_in bytes (DropRecord mutator pointer) = Mutator (number_in mutator) (Drop (number_in pointer))
-command_in bytes (ViewRecord mutator pointer) = Mutator (number_in mutator) (View (number_in pointer))
+command_in bytes (ViewRecord mutator pointer) = Mutator (number_in mutator) (On (number_in pointer) Views)
 command_in bytes (TryRecord mutator pointer) = Mutator (number_in mutator) (Try (number_in pointer))
 command_in bytes (EpochRecord mutator) = Mutator (number_in mutator) Epoch
 command_in bytes LogsRecord = Book Logs

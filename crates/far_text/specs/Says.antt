@@ -3,7 +3,7 @@ use Rattle.std.specs.Prelude.{◌≡◌, ◌⊎◌, ℕ, ◌<◌, ◌≤◌, ◌
 use Rattle.hex.specs.Hex.{decode_of, IsBytes}
 use Rattle.far_text.specs.declared.command.TheConstants.{MOST_CHOSEN}
 use Rattle.far_text.specs.declared.hex_word.TheConstants.{LONGEST_LINE, LONGEST_BYTES}
-use Rattle.far_text.specs.Command.{Entry, HeapLine, DeviceLine, Flawed, Flaw, Fail, Short, Flip, CommandLine, New, Open, Write, Read, Close, Where, Drop, View, Try, Epoch, Logs, Log, Audit, Mutator, Book, Evacuator, Policy, Oldest, LeastLive, By, Script, Select, Mark, Wait, Evacuate, Abort, Round}
+use Rattle.far_text.specs.Command.{Entry, HeapLine, DeviceLine, Flawed, Flaw, Fail, Short, Flip, CommandLine, New, Open, On, Reads, Writes, Views, Close, Where, Drop, Try, Epoch, Logs, Log, Audit, Mutator, Book, Evacuator, Policy, Oldest, LeastLive, By, Script, Select, Mark, Wait, Evacuate, Abort, Round}
 
 -- A word in hex stands for these bytes, one at least; a word is no longer than a line.
 abbrev pub Spells : List ℕ → List ℕ → Type 0
@@ -34,10 +34,10 @@ Says words (CommandLine (Mutator mutator (New len structure))) =
     (words ≡ codes "new" ∷ decimal mutator ∷ decimal len ∷ decimal structure ∷ [])
     × (mutator < 2 ^ 64) × (len < 2 ^ 64) × (structure < 2 ^ 64)
 Says words (CommandLine (Mutator mutator Open)) = (words ≡ codes "open" ∷ decimal mutator ∷ []) × (mutator < 2 ^ 64)
-Says words (CommandLine (Mutator mutator (Write pointer from bytes))) = (word : List ℕ)
+Says words (CommandLine (Mutator mutator (On pointer (Writes from bytes)))) = (word : List ℕ)
     × (words ≡ codes "write" ∷ decimal mutator ∷ decimal pointer ∷ decimal from ∷ word ∷ [])
     × (mutator < 2 ^ 64) × (pointer < 2 ^ 64) × (from < 2 ^ 64) × Spells word bytes
-Says words (CommandLine (Mutator mutator (Read pointer from len))) =
+Says words (CommandLine (Mutator mutator (On pointer (Reads from len)))) =
     (words ≡ codes "read" ∷ decimal mutator ∷ decimal pointer ∷ decimal from ∷ decimal len ∷ [])
     × (mutator < 2 ^ 64) × (pointer < 2 ^ 64) × (from < 2 ^ 64) × (len < 2 ^ 64)
 Says words (CommandLine (Mutator mutator Close)) = (words ≡ codes "close" ∷ decimal mutator ∷ []) × (mutator < 2 ^ 64)
@@ -45,7 +45,7 @@ Says words (CommandLine (Mutator mutator (Where pointer))) =
     (words ≡ codes "where" ∷ decimal mutator ∷ decimal pointer ∷ []) × (mutator < 2 ^ 64) × (pointer < 2 ^ 64)
 Says words (CommandLine (Mutator mutator (Drop pointer))) =
     (words ≡ codes "drop" ∷ decimal mutator ∷ decimal pointer ∷ []) × (mutator < 2 ^ 64) × (pointer < 2 ^ 64)
-Says words (CommandLine (Mutator mutator (View pointer))) =
+Says words (CommandLine (Mutator mutator (On pointer Views))) =
     (words ≡ codes "view" ∷ decimal mutator ∷ decimal pointer ∷ []) × (mutator < 2 ^ 64) × (pointer < 2 ^ 64)
 Says words (CommandLine (Mutator mutator (Try pointer))) =
     (words ≡ codes "try" ∷ decimal mutator ∷ decimal pointer ∷ []) × (mutator < 2 ^ 64) × (pointer < 2 ^ 64)

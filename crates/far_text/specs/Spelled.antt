@@ -1,7 +1,7 @@
 -- What the words of a line spell as they are read, the bytes of a write still in hex, and the logs of a script still printed: nothing, where these are no bytes, or no logs.
 use Rattle.std.specs.Prelude.{Option, Some}
 use Rattle.std.specs.Option.{option_map}
-use Rattle.far_text.specs.Command.{Command, Entry, HeapLine, DeviceLine, CommandLine, Mutator, Book, Request, New, Open, Write, Read, Close, Where, Drop, View, Try, Epoch, Evacuator, Choice, By, Script, Step, Select, Mark, Wait, Evacuate, Abort, Round, as_device, as_inquiry, as_policy}
+use Rattle.far_text.specs.Command.{Command, Entry, HeapLine, DeviceLine, CommandLine, Mutator, Book, Request, New, Open, On, Reads, Writes, Views, Close, Where, Drop, Try, Epoch, Evacuator, Choice, By, Script, Step, Select, Mark, Wait, Evacuate, Abort, Round, as_device, as_inquiry, as_policy}
 use Rattle.far_text.specs.Cursor.{words_in}
 use Rattle.far_text.specs.Grammar.{bytes_in, logs_of, limited, Line, Skipped, saying}
 use Rattle.far_text.specs.declared.command.Choice.{Choice as SpelledChoice}
@@ -20,12 +20,12 @@ use Rattle.far_text.specs.declared.line.Line.TheVariants.{Skipped as SpelledSkip
 abbrev pub request_spelled : SpelledRequest → Option Request
 request_spelled (SpelledNew len structure) = Some (New len structure)
 request_spelled SpelledOpen = Some Open
-request_spelled (SpelledWrite pointer from word) = option_map (Write pointer from) (bytes_in word.now)
-request_spelled (SpelledRead pointer from len) = Some (Read pointer from len)
+request_spelled (SpelledWrite pointer from word) = option_map (λ bytes. On pointer (Writes from bytes)) (bytes_in word.now)
+request_spelled (SpelledRead pointer from len) = Some (On pointer (Reads from len))
 request_spelled SpelledClose = Some Close
 request_spelled (SpelledWhere pointer) = Some (Where pointer)
 request_spelled (SpelledDrop pointer) = Some (Drop pointer)
-request_spelled (SpelledView pointer) = Some (View pointer)
+request_spelled (SpelledView pointer) = Some (On pointer Views)
 request_spelled (SpelledTry pointer) = Some (Try pointer)
 request_spelled SpelledEpoch = Some Epoch
 

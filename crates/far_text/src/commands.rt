@@ -2,7 +2,7 @@
 
 ghost use Rattle.std.specs.Prelude.{◌≡◌, ◌≢◌, ◌++◌, ◌∷◌, ℕ, List, [], length, take, drop, cond, true, Ok, Some, None, IfOk, IfErr, IfSome};
 ghost use Rattle.std.specs.Option.{option_map};
-ghost use Rattle.far_text.specs.Command.{Mutator, Book, Evacuator, Write, as_command, as_inquiry};
+ghost use Rattle.far_text.specs.Command.{Mutator, Book, Evacuator, On, Writes, as_command, as_inquiry};
 ghost use Rattle.far_text.specs.Grammar.{bytes_in};
 ghost use Rattle.far_text.specs.Spelled.{command_spelled, request_spelled, step_spelled};
 ghost use Rattle.far_text.specs.Records.{command_in, IsWithin};
@@ -43,7 +43,7 @@ fn write_record(
     from: u64,
     word: &[u8],
 ) -> Result<Option<Record>, AllocError>
-    ensures value { IfOk result (λ found. option_map (command_in bytes.new) found ≡ option_map (λ read. Mutator mutator (Write pointer from read)) (bytes_in word.now)) }
+    ensures value { IfOk result (λ found. option_map (command_in bytes.new) found ≡ option_map (λ read. Mutator mutator (On pointer (Writes from read))) (bytes_in word.now)) }
     ensures within { IfOk result (λ found. IfSome found (IsWithin (length bytes.new))) }
     ensures kept { take (length bytes.old) bytes.new ≡ bytes.old }
     ensures none { result ≡ Ok None → bytes.new ≡ bytes.old }

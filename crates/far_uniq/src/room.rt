@@ -7,7 +7,9 @@ use crate::asked::Asked;
 use crate::told::Fault;
 use far_file::NewFile;
 use far_pool::{Layout, Plan};
+use std::env::VarError;
 use std::fs::File;
+use std::io::{Error, ErrorKind};
 use std::{env, fs};
 
 /// Bytes beside objects, index and heaps: what is read and written at once, and the program itself.
@@ -83,17 +85,24 @@ fn room_for(near: u64, line: u64, least: u64) -> Result<Room, Fault>
     }
 }
 
-// TMPDIR, if it has a name, else the current folder.
+// TMPDIR, if it has a name, else the current folder. One that is no text, or can't be had, isn't passed over.
 fn temporary(rt: &HostRuntime) -> Result<String, Fault> {
-    if let Ok(folder) = env::var(rt, "TMPDIR") {
-        if !folder.is_empty() {
-            return Ok(folder);
+    match env::var(rt, "TMPDIR") {
+        Ok(folder) => {
+            if !folder.is_empty() {
+                return Ok(folder);
+            }
         }
+        Err(VarError::NotPresent) => {}
+        Err(VarError::NotUnicode) => {
+            return Err(Fault::File(Error::from(ErrorKind::InvalidInput)));
+        }
+        Err(VarError::OutOfMemory) => return Err(Fault::Memory),
     }
     String::from_str(rt.alloc(), ".").map_err(|_| Fault::Memory)
 }
 
-/// A new file, which nobody else may read; its name is taken away at once.
+/// A new file, which nobody else may read; its name is taken away at once, or it isn't used.
 pub fn open_far(rt: &HostRuntime, words: &Asked, seed: &[u8; 16]) -> Result<File, Fault> {
     let folder = match &words.folder {
         Some(folder) => String::from_str(rt.alloc(), folder.as_str()).map_err(|_| Fault::Memory)?,
@@ -104,7 +113,7 @@ pub fn open_far(rt: &HostRuntime, words: &Asked, seed: &[u8; 16]) -> Result<File
     )?;
     match NewFile::new().open(rt, name.as_str()) {
         Ok(file) => {
-            let _ = fs::remove_file(rt, name.as_str());
+            fs::remove_file(rt, name.as_str()).map_err(Fault::File)?;
             Ok(file)
         }
         Err(why) => Err(Fault::File(why)),

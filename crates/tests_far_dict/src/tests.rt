@@ -5,3 +5,4 @@ mod cases;
 mod changes;
 mod holding;
 mod page;
+mod telling;

@@ -295,6 +295,23 @@ fn a_device_counts_what_it_has(rt: HostRuntime) {
     assert!(rt; has.end == 6 * 16384);
 }
 
+// What a device has that gave each key a slot of 64 bytes.
+fn counts_all(alloc: Global) -> FileStatistics {
+    let mut device = FileDevice::<MemStorage>::new(alloc, MemStorage::new(alloc));
+    for key in 0..2048u32 {
+        let _ = device.write(key, &LONGEST[..64]);
+    }
+    device.statistics()
+}
+
+// Slots of a size are for all keys, 256 of 64 bytes on an extent.
+#[test]
+fn each_key_has_a_slot_of_a_size(rt: HostRuntime) {
+    let has = counts_all(rt.alloc());
+    assert!(rt; has.keys == 2048 && has.bytes == 2048 * 64 && has.end == 9 * 16384);
+    assert!(rt; has.classes[0].slots == 2048 && has.classes[0].extents == 8);
+}
+
 // The first byte that a read of these answers over storage that inverts one, and why it answers none.
 fn of_crooked<L: Seal>(alloc: Global, bytes: &[u8], at: usize) -> (Option<u8>, Option<FileFault>) {
     let storage = Crooked {
@@ -331,6 +348,30 @@ fn tells_of_each(alloc: Global, bytes: &[u8]) -> bool {
         }
     }
     true
+}
+
+// How faults are told in words.
+#[rattlefmt::skip]
+const TOLD: &[(FileFault, &str)] = &[
+    (FileFault::NoSlot, "the key has no slot, no slot has room for so many bytes, or none is left"),
+    (FileFault::Nothing, "nothing is under the key"),
+    (FileFault::Misfit, "other bytes came back than were written"),
+    (FileFault::Storage(StorageFault::Memory), "the storage failed: a growth was refused"),
+    (FileFault::Storage(StorageFault::Short), "the storage failed: there were fewer bytes than were asked for"),
+    (FileFault::Storage(StorageFault::Full), "the storage failed: there was no room for the bytes"),
+    (FileFault::Storage(StorageFault::Medium), "the storage failed: the medium failed, or the server that has it"),
+    (FileFault::Storage(StorageFault::Interrupted), "the storage failed: calls of the system were interrupted again and again"),
+    (FileFault::Storage(StorageFault::Failed), "the storage failed: the system failed"),
+];
+
+#[test]
+fn faults_are_told_in_words(rt: HostRuntime) {
+    for (fault, told) in TOLD {
+        match format!(in rt.alloc(); "{fault}") {
+            Ok(text) => assert!(rt; text.as_str() == *told),
+            Err(_) => assert!(rt; false),
+        }
+    }
 }
 
 const ZEROS: &[u8] = &[0; 1016];

@@ -172,8 +172,19 @@ fn can_be_sent<T: Send>(_it: &T) -> bool {
     true
 }
 
-// The same of devices over one file, which may go to other threads.
+// Whether a file is as long as its devices have extents, but for the rest of the last one.
+fn ends_so(file: &File, end: u64) -> bool {
+    match file.metadata() {
+        Ok(of) => of.len() <= end && end <= of.len().saturating_add(2 * 16384),
+        Err(_) => false,
+    }
+}
+
+// The same of devices over one file, which may go to other threads. They have more than 4 MiB of it in the end.
 fn share(alloc: Global, file: File) -> bool {
+    let Ok(own) = file.try_clone() else {
+        return false;
+    };
     let Ok(shared) = SharedFile::new(alloc, file) else {
         return false;
     };
@@ -187,6 +198,10 @@ fn share(alloc: Global, file: File) -> bool {
                 && shared.end() == 3 * 16384
                 && can_be_sent(&one)
                 && two_keep(alloc, &mut one, &mut other)
+                && moves(&mut one, alloc, 1000, 1)
+                && moves(&mut other, alloc, 1000, 1)
+                && shared.end() > 5_000_000
+                && ends_so(&own, shared.end())
         }
         _ => false,
     }

@@ -214,14 +214,16 @@ fn storage_that_fails_is_told(rt: HostRuntime) {
     }
 }
 
-// Whether a handle tells the last of two faults, of a key under which nothing is and of one that has no slot.
+// Whether a handle tells no fault that was before, and then the last of two, of a key under which nothing is and of one that has no slot.
 fn tells_the_last(mut device: FileDevice<MemStorage>) -> bool {
+    let before = device.read(7).is_err();
     let Ok(last) = device.last_fault() else {
         return false;
     };
+    let none = before && last.get().is_none();
     let fail = device.read(6).is_err() && device.write(2048, &[1]).is_err();
     let why = FileFault::NoSlot;
-    fail && last.get() == Some(KeyFault { key: 2048, why })
+    none && fail && last.get() == Some(KeyFault { key: 2048, why })
 }
 
 #[test]

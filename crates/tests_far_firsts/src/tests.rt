@@ -2,5 +2,6 @@
 
 mod counts;
 mod faults;
+mod restless;
 mod streams;
 mod texts;

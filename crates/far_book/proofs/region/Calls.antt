@@ -30,7 +30,7 @@ use Rattle.far_core.proofs.RoomLaws.{room_right}
 use Rattle.far_core.proofs.Rows.{row_in, row_out}
 use Rattle.far_book.specs.declared.ledger.Ledger.{Ledger}
 use Rattle.far_hand.specs.Finds.{Finds, body_of, marks_in}
-use Rattle.far_book.specs.book.Effects.{retired, order_after, with_free_cell, with_blank_span, near_word}
+use Rattle.far_book.specs.book.Effects.{retired, with_free_cell, with_blank_span, near_word}
 use Rattle.far_book.specs.book.Ledger.{Notes, IsLowestFree, MayTake, MayTakeAgain, Takes, TakesAgain, is_noted_free}
 use Rattle.far_book.specs.book.Own.{own_part}
 use Rattle.far_book.specs.book.Placeable.{Placeable}
@@ -117,9 +117,6 @@ module _ {s : State} {ledger : Ledger} {p len ds : ℕ} {place : Place} (x : Has
       | inl e ↦ ap (is_noted_free ledger) e ∙ here_used ∙ sym (ap (λ b. not b && is_noted_free ledger q) (eq-eqb q p e))
       | inr ne ↦ sym (ap (λ b. not b && is_noted_free ledger q) (ne_eqb q p ne))
     ]
-
-  pub order_taken : (new : Ledger) → Takes ledger new p (size_of len) place → new.order ≡ order_after s ledger.order place
-  order_taken new takes = takes.order ∙ ap (λ c. order_after (record s { current = c }) ledger.order place) x.notes.current
 
 -- where a header and zeros are written at the end of a log, the span there may be named
 pub may_name : (s : State) (p len ds : ℕ) (place : Place) → p < CELLS * s.mutators → IsPtr (Near len ds place no_marks) → IsNext s place → Legal (with_blank_span s p len ds place) (events.Name p 0 (near_word true len ds place))

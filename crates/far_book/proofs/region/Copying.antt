@@ -1,5 +1,5 @@
 -- An object's words are copied one by one while owners are at work.
-use Rattle.std.proofs.Common.{◌≡◌, ◌≢◌, ℕ, ◌+◌, ◌-◌, ◌*◌, ◌/◌, ◌%◌, ◌^◌, ◌<◌, ◌≤◌, true, false, arith, sym, refl, ap, subst, ◌∙◌, inl, inr, Some}
+use Rattle.std.proofs.Common.{◌≡◌, ◌≢◌, ℕ, ◌+◌, ◌-◌, ◌*◌, ◌/◌, ◌%◌, ◌^◌, ◌<◌, ◌≤◌, true, arith, sym, refl, ap, subst, ◌∙◌, inl, inr, Some}
 use Rattle.std.proofs.lemmas.Bool.{cases_eq, cases_lt}
 use Rattle.far_word.specs.declared.pointer.Place.{Place}
 use Rattle.far_word.specs.declared.pointer.PtrWord.TheVariants.{Near}
@@ -99,9 +99,6 @@ module _ (s : State) (p len ds : ℕ) (from to : Place) (h : MayCopy s p len ds 
       let tails : t.tail to.log ≡ s.tail to.log = ap (λ (x : State). x.tail to.log) is in
       (subst (λ (x : State). to.log < x.logs) (sym is) h.next.0, λ e. next_unsealed s to h.next (ap (λ (x : State). x.kind to.log) (sym is) ∙ e), omega (arith, at_end), high)
 
-  pub get_legal : (t : State) → t ≡ record s { word = t.word } → (at : ℕ) → at < LOG_WORDS → Legal t (events.Get from.log at false)
-  get_legal t is at high = (subst (λ (x : State). from.log < x.logs) (sym is) from_inside, high, tt)
-
   -- ---- the header is put
   module _ (t : State) (is : t ≡ record s { word = put s.word (to.log * LOG_WORDS + to.at) (head_word p len ds) }) where
     word_is : t.word ≡ put s.word (addr to) (head_word p len ds)
@@ -123,9 +120,6 @@ module _ (s : State) (p len ds : ℕ) (from to : Place) (h : MayCopy s p len ds 
 
     abbrev target : ℕ
     target = to.log * LOG_WORDS + (to.at + 1 + n)
-
-    cell_same : t.cell ≡ s.cell
-    cell_same = ap (λ (x : State). x.cell) c.is
 
     -- the word that is read is one of a quiet object
     pub quiet_word : IsQuietAt t source

@@ -1,14 +1,13 @@
 -- What a book's device holds of far objects, and of clean ones, stays right.
-use Rattle.std.proofs.Common.{◌≡◌, ℕ, refl, sym, ap, ◌∙◌, subst, Option, Some, None, List}
+use Rattle.std.proofs.Common.{◌≡◌, ℕ, sym, ap, ◌∙◌, subst, Option, Some, List}
 use Rattle.far_word.specs.Bytes.{bytes_of}
 use Rattle.far_word.specs.Pointer.{read_of}
 use Rattle.far_core.specs.state.State.{State, put}
 use Rattle.far_core.proofs.Put.{put_both}
-use Rattle.far_device.specs.Contents.{KeepsOthers}
 use Rattle.far_hand.specs.Finds.{Finds}
 use Rattle.far_hand.specs.Others.{OthersChange}
 use Rattle.far_book.specs.book.FarSide.{HoldsFar, kept_len}
-use Rattle.far_book.proofs.region.FarHeld.{kept_found, unheld_named}
+use Rattle.far_book.proofs.region.FarHeld.{kept_found}
 
 module _ (s : State) (held : ℕ → Option (List ℕ)) (far : HoldsFar s held) where
   found_len : (p w : ℕ) → Finds (s.cell p) w → (q len : ℕ) → kept_len (read_of (put s.cell p w q)) ≡ Some len → kept_len (read_of (s.cell q)) ≡ Some len
@@ -29,7 +28,3 @@ module _ (s : State) (held : ℕ → Option (List ℕ)) (far : HoldsFar s held) 
     same = λ honest q len h. far.same (sym (ap (λ (u : State). u.honest) change.rest) ∙ honest) q len (kept_found (s.cell q) (t.cell q) (change.cells q) len h)
         ∙ ap (λ (u : State). Some (bytes_of (u.stored q) len)) (sym change.rest);
   }
-
-  -- a pointer's key may be let go of from now on
-  pub far_without : (p w : ℕ) (now : ℕ → Option (List ℕ)) → kept_len (read_of w) ≡ None → KeepsOthers held now p → HoldsFar (record s { cell = put s.cell p w }) now
-  far_without p w now none others = unheld_named s (record s { cell = put s.cell p w }) held now far p w refl refl (λ q ne. refl) others none

@@ -42,9 +42,6 @@ module _ (s : State) (j : ℕ) (job : Job) where
     counted = ap is_named (sym is);
   }
 
-  none_forgot : (t : State) → Forgets t t
-  none_forgot t = record { known = λ a k. refl; headers = λ a h. refl }
-
   -- it stays as it was known
   pub goes_stays : fate_in s j job (s.copying.word j) (s.cell job.pointer) ≡ Stays → GoesAsFound s s j job false
   goes_stays is = by_fate (s.copying.word j) (s.cell job.pointer) Stays s (job_itself (s.copying.word j)) (finds_same (s.cell job.pointer)) is (sym so_itself) (record { known = λ a k. refl; headers = λ a h. refl })
@@ -131,9 +128,6 @@ back_stays s j word h = other_stays s j word (job_of word) h
 pub found_twice : (s : State) (j v w : ℕ) → job_found (job_found s j v) j w ≡ job_found s j w
 found_twice s j v w = λ i. record s { copying = record s.copying { word = put_put s.copying.word j v w i } }
 
-pub emptied_twice : (s : State) (j v : ℕ) → collected (job_found s j v) j ≡ collected s j
-emptied_twice s j v = found_twice s j v 0
-
 -- ---- fates
 pub fate_offered : (o : Option JobWord) (x : Job) (void dropped : Bool) → o ≡ Some (Offered x) → fate_of o void dropped ≡ cond void Empties Stays
 fate_offered o x void dropped e = ap (λ y. fate_of y void dropped) e
@@ -161,23 +155,6 @@ offered_lost v w x was f other y is =
     let both : Some y ≡ Some x = sym (ap job_said is) ∙ same_job v w f ∙ ap job_said was in
     let one : y ≡ x = cc in
     other (sym (job_says w (Offered y) is).1 ∙ ap (λ z. job_word (Offered z)) one ∙ (job_says v (Offered x) was).1)
-
--- a word of this job that is finished, or offered
-finished_of : (o : Option JobWord) (what : Job) → job_said o ≡ Some what → is_finished o ≡ true → (c : ℕ) × (o ≡ Some (Finished what c))
-finished_of None what e h = absurd (false≢true h)
-finished_of (Some Empty) what e h = absurd (false≢true h)
-finished_of (Some (Offered x)) what e h = absurd (false≢true h)
-finished_of (Some (Taken x c)) what e h = absurd (false≢true h)
-finished_of (Some (Finished x c)) what e h = let same : x ≡ what = cc in (c, ap (λ y. Some (Finished y c)) same)
-
-pub finished_says : (w : ℕ) (what : Job) → job_said (job_of w) ≡ Some what → is_finished (job_of w) ≡ true → (c : ℕ) × (job_of w ≡ Some (Finished what c))
-finished_says w what e h = finished_of (job_of w) what e h
-
-pub offered_says : (w : ℕ) (what x : Job) → job_said (job_of w) ≡ Some what → job_of w ≡ Some (Offered x) → job_of w ≡ Some (Offered what)
-offered_says w what x e h =
-    let both : Some x ≡ Some what = sym (ap job_said h) ∙ e in
-    let same : x ≡ what = cc in
-    h ∙ ap (λ y. Some (Offered y)) same
 
 pub not_offered : (o : Option JobWord) (dropped : Bool) → is_finished o ≡ false → fate_of o false dropped ≡ Stays
 not_offered None dropped h = refl

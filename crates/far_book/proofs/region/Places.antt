@@ -19,8 +19,7 @@ use Rattle.far_log.proofs.SpanLaws.{one_list, tile_bounds}
 use Rattle.far_log.proofs.WalkLaws.{walk_more, same_walk}
 use Rattle.far_core.specs.declared.event.Event.TheVariants as events
 use Rattle.far_core.specs.declared.event.Kind.TheVariants as kinds
-use Rattle.far_core.specs.declared.naming.Naming.TheVariants.{Places}
-use Rattle.far_core.specs.events.Legal.{Legal, IsNext}
+use Rattle.far_core.specs.events.Legal.{IsNext}
 use Rattle.far_core.specs.events.Naming.{no_marks, unmarked}
 use Rattle.far_core.specs.events.NewSpans.{IsNewSpan, with_span}
 use Rattle.far_core.specs.events.Step.{after}
@@ -81,9 +80,6 @@ module _ (s : State) (law : Law s) (p len ds : ℕ) (place : Place) (h : Placeab
 
   span : IsNewSpan headed p len ds place
   span = record { next = h.next; head = put_same s.word (addr place) (head_word p len ds) (addr place) refl }
-
-  pub legal_name : Legal headed (events.Name p 0 (near_word true len ds place))
-  legal_name = (h.pointer, (Places len ds place, (unused, read_back (Near len ds place (unmarked true)) h.layout), (span, blank_behind)))
 
   -- where nobody holds a view and nothing is promised of the far side, it may be named with DIRTY, and without where words of its length are stored
   pub law_then : s.held p ≡ None → s.honest ≡ false → (dirty : Bool) → (dirty ≡ false → IsStored (s.stored p) len) → Law (with_object s dirty p len ds place)

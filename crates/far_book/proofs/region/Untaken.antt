@@ -132,9 +132,6 @@ module _ (k : Copying) where
   pub uncopied_own : (l : ℕ) → IsUncopied k l → IsUncopied (unread k) l
   uncopied_own l h j job e = h j job (sym (same_jobs j) ∙ e)
 
-  pub uncopied_all : (l : ℕ) → IsUncopied (unread k) l → IsUncopied k l
-  uncopied_all l h j job e = h j job (same_jobs j ∙ e)
-
   pub no_copy_all : (p : ℕ) (from to : Place) → NoCopy (unread k) p from to → NoCopy k p from to
   no_copy_all p from to h j c e = h j c (ap job_of (finished_kept (k.word j) _ c e) ∙ e)
 

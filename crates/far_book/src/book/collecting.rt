@@ -16,9 +16,9 @@ ghost use Rattle.far_book.specs.book.Copies.{CollectsJobs, TakesJobsBack};
 ghost use Rattle.far_book.specs.book.Jobs.{is_good};
 
 use crate::book::Book;
-use crate::book::next::names_place;
 use crate::book::renaming::{is_dropped, rename_near};
 use crate::jobs::Noted;
+use far_core::names_place;
 use far_device::Device;
 use far_hand::Near;
 use far_word::{JOBS, Job, JobWord, PtrWord, size_of};

@@ -212,8 +212,8 @@ fn unmark_object<N: Near>(
     }
 }
 
-// Whether the book wants the log that a near object lies in.
-fn has_evac(word: u64) -> bool
+/// Whether the book wants the log that a near object lies in.
+pub fn has_evac(word: u64) -> bool
     requires { IsSome (read_of word) }
     ensures { result ≡ has_evac (read_of word) }
 {

@@ -1,8 +1,7 @@
 //! How the live spans of a log are found one after the other, without a list of them.
 
-ghost use Rattle.std.specs.Prelude.{◌≡◌, ◌⊎◌, ◌+◌, ◌*◌, ◌<◌, ◌≤◌, ◌∷◌, ℕ, true, [], IsSome, IfSome, IfNone};
+ghost use Rattle.std.specs.Prelude.{◌≡◌, ◌⊎◌, ◌+◌, ◌*◌, ◌<◌, ◌≤◌, ◌∷◌, ℕ, true, [], IfSome, IfNone};
 ghost use Rattle.far_word.specs.declared.sizes.TheConstants.{CELLS, LOG_WORDS};
-ghost use Rattle.far_word.specs.Pointer.{read_of};
 ghost use Rattle.far_word.specs.Sizes.{size_of};
 ghost use Rattle.far_log.specs.Spans.{span_at};
 ghost use Rattle.far_core.specs.state.Spans.{names_place, word_in};
@@ -13,10 +12,11 @@ ghost use Rattle.far_book.specs.book.Only.{Reads};
 
 use crate::book::Book;
 use crate::live_span::LiveSpan;
+use far_core::names_place;
 use far_device::Device;
 use far_hand::Near;
 use far_log::Span;
-use far_word::{HeadWord, PtrWord, size_of};
+use far_word::{HeadWord, size_of};
 
 impl<N: Near + Drop, D: Device + Drop> Book<N, D> {
     /// The first span at word `at` of a log, or behind it, in which an object lives, dropped or not, by its cell as it is found;
@@ -120,16 +120,5 @@ impl<N: Near + Drop, D: Device + Drop> Book<N, D> {
             len: head.len,
             ds: head.ds,
         }
-    }
-}
-
-/// Whether a cell names a place.
-pub(crate) fn names_place(cell: u64, log: u8, at: u16) -> bool
-    requires { IsSome (read_of cell) }
-    ensures { result ≡ names_place (read_of cell) log at }
-{
-    match PtrWord::known(cell) {
-        PtrWord::Near { place, .. } => place.log == log && place.at == at,
-        _ => false,
     }
 }

@@ -273,27 +273,6 @@ impl Core {
         self.memory.read_length(copier)
     }
 
-    /// Data word `index` at the source of a copier's job, which the copier remembers.
-    #[inline]
-    pub fn read_source(&mut self, copier: u8, index: u16) -> u64
-        requires legal { Legal (core_state self.old) (Event.Read copier index) }
-        ensures state { core_state self.new ≡ after (core_state self.old) (Event.Read copier index) }
-        ensures word { answer (core_state self.old) (Event.Read copier index) ≡ Reply.Word result }
-        ensures kept { keeps_stored self.new ≡ keeps_stored self.old }
-    {
-        self.memory.read(copier, index)
-    }
-
-    /// A data word that a copier has read at its job's source stands at the target from then on.
-    #[inline]
-    pub fn write_target(&mut self, copier: u8, index: u16)
-        requires legal { Legal (core_state self.old) (Event.Write copier index) }
-        ensures state { core_state self.new ≡ after (core_state self.old) (Event.Write copier index) }
-        ensures kept { keeps_stored self.new ≡ keeps_stored self.old }
-    {
-        self.memory.write(copier, index);
-    }
-
     /// A copier that has written all words of its job says so, and has no job from then on.
     #[inline]
     pub fn finish(&mut self, copier: u8)

@@ -62,17 +62,6 @@ impl Bits {
         self.words[bit / 64] = word | 1 << (bit % 64);
     }
 
-    /// A bit is no longer set.
-    #[inline]
-    pub(crate) fn unset(&mut self, bit: usize)
-        requires { bit < 64 * vec_len self.old.words }
-        ensures sized { vec_len self.new.words ≡ vec_len self.old.words }
-        ensures unset { bit_in self.new ≡ put (bit_in self.old) bit false }
-    {
-        let word = self.words[bit / 64];
-        self.words[bit / 64] = word & !(1 << (bit % 64));
-    }
-
     /// No bit is set in a part of the row, of parts of so many words.
     #[inline]
     pub(crate) fn clear_part(&mut self, part: usize, words: usize)

@@ -485,7 +485,7 @@ fn pointer_in(word: u64) -> u16
 }
 
 /// Whether a cell names a place.
-pub(crate) fn names_place(cell: u64, log: u8, at: u16) -> bool
+pub fn names_place(cell: u64, log: u8, at: u16) -> bool
     requires { IsSome (read_of cell) }
     ensures { result ≡ names_place (read_of cell) log at }
 {

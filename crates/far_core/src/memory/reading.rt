@@ -274,7 +274,7 @@ pub(crate) fn first_word(place: Place) -> usize
 }
 
 /// Whether a cell is used and not dropped.
-pub(crate) fn in_use(cell: u64) -> bool
+pub fn in_use(cell: u64) -> bool
     requires { IsSome (read_of cell) }
     ensures { result ≡ in_use (read_of cell) }
 {

@@ -99,3 +99,9 @@ abbrev pub NoJobIsEmpty : Type 0
 NoJobIsEmpty =
     drop 39 (answers (begins 4) (map (λ p. News 0 p 8) (range_with_len 0 17) ++ Own (ReadEpoch 0) ∷ Own (Opens 0) ∷ map (λ p. Own (Pin 0 p)) (range_with_len 0 17) ++ Own (Close 0) ∷ News 0 17 4088 ∷ Selects 1 ∷ Mark 99 ∷ Waits ∷ Evacuates 99 ∷ Locates 16 ∷ Own (PeekJob 0 15) ∷ Evacuates 99 ∷ []))
     ≡ Marked 17 (Some 1) ∷ Polls Clear ∷ Evacuated (so_far 1 0 0 0) ∷ Lies (Some (near 2 32 dirty)) ∷ Replies (Word 0x40002078001e000f) ∷ Evacuated (so_far 0 0 0 0) ∷ []
+
+-- each log in which nothing lies any more is given back, the highest too, whatever the lengths of what lay there
+abbrev pub EachLogComesBack : Type 0
+EachLogComesBack =
+    answers (begins 4) (News 0 0 4088 ∷ News 0 1 4088 ∷ News 0 2 4087 ∷ Selects 2 ∷ Mark 9 ∷ Waits ∷ Own (Ask 0 1 Moved) ∷ MovesNow 1 ∷ Evacuates 9 ∷ News 0 3 8 ∷ Selects 2 ∷ Mark 9 ∷ Waits ∷ Evacuates 9 ∷ [])
+    ≡ At (place 0 0) ∷ At (place 1 0) ∷ At (place 2 0) ∷ Selected (0 ∷ 1 ∷ []) ∷ Marked 2 (Some 1) ∷ Polls Clear ∷ Replies (Word 0xa600000400010ff8) ∷ At (place 3 0) ∷ Evacuated (did_so 0 1 0 2) ∷ At (place 0 0) ∷ Selected (2 ∷ 3 ∷ []) ∷ Marked 2 (Some 2) ∷ Polls Clear ∷ Evacuated (did_so 0 2 0 2) ∷ []

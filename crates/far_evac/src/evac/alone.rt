@@ -15,9 +15,8 @@ ghost use Rattle.far_evac.specs.Refusals.{unselectable};
 ghost use Rattle.far_evac.specs.RoundAsked.{RoundAsking, StopsAsking};
 ghost use Rattle.far_evac.specs.Turns.{HaltsTurns, IsRound};
 
-use crate::answers::{EvacFault, RoundEnd};
+use crate::answers::{EvacFault, Progress, RoundEnd};
 use crate::evac::Evac;
-use crate::evac::turning::nothing_done;
 use far_book::Plain;
 use far_device::Device;
 use far_policy::Policy;
@@ -50,7 +49,7 @@ impl<D: Device + Drop> Evac<Plain, D> {
             Ok(logs) => logs,
             Err(why) => {
                 return Err(EvacFault {
-                    so_far: nothing_done(),
+                    so_far: Progress::nothing(),
                     why,
                 });
             }

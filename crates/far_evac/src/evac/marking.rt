@@ -1,12 +1,10 @@
 //! How the objects of the chosen logs get EVAC, and lose it where a round is given up.
 
-ghost use Rattle.std.specs.Prelude.{◌≡◌, ◌+◌, ◌<◌, ◌≤◌, ℕ, true, false, not, fold, [], length, drop, IfSome, IfNone, IsSome};
+ghost use Rattle.std.specs.Prelude.{◌≡◌, ◌+◌, ◌<◌, ◌≤◌, ℕ, true, false, not, fold, [], length, drop, IfSome, IfNone};
 ghost use Rattle.far_word.specs.declared.sizes.TheConstants.{JOBS, MOST_LOGS};
-ghost use Rattle.far_word.specs.Pointer.{read_of};
 ghost use Rattle.far_core.specs.events.Advance.{is_among};
 ghost use Rattle.far_hand.specs.Came.{Came};
 ghost use Rattle.far_book.specs.book.Collecting.{TakesBack};
-ghost use Rattle.far_book.specs.book.Dealing.{has_evac};
 ghost use Rattle.far_book.specs.book.NextLive.{IsBoundary};
 ghost use Rattle.far_evac.specs.AnyHand.{Knows, KnowsMoment};
 ghost use Rattle.far_evac.specs.Calls.{GivesRoundUp, MarksObjects};
@@ -23,11 +21,11 @@ use crate::answers::Marked;
 use crate::evac::Evac;
 use crate::phase::Phase;
 use crate::round::{Cursor, Round};
-use far_book::{Book, Near};
+use far_book::{Book, Near, has_evac};
 use far_device::Device;
 use far_log::Span;
 use far_policy::Chosen;
-use far_word::{PtrWord, Refused, size_of};
+use far_word::{Refused, size_of};
 
 impl<N: Near + Drop, D: Device + Drop> Evac<N, D> {
     /// Sets EVAC on the first n live objects of the chosen logs that lack it, or on all, and counts them. Where none is left, the
@@ -236,17 +234,6 @@ fn next_unmarked<N: Near + Drop, D: Device + Drop>(
     }
     book.keeps_law();
     None
-}
-
-// Whether the book wants the log that the object of a cell lies in.
-fn has_evac(cell: u64) -> bool
-    requires layout { IsSome (read_of cell) }
-    ensures { result ≡ has_evac (read_of cell) }
-{
-    match PtrWord::known(cell) {
-        PtrWord::Near { marks, .. } => marks.evac,
-        _ => false,
-    }
 }
 
 // Which of the chosen logs is the first of the collection set; how many they are, where none is.

@@ -42,20 +42,20 @@ impl<N: Near + Drop, D: Device + Drop> Evac<N, D> {
     {
         match self.phase() {
             Phase::Idle => Err(EvacFault {
-                so_far: nothing_done(),
+                so_far: Progress::nothing(),
                 why: Refused::Phase,
             }),
             Phase::Marking => {
                 let Ok(_) = self.mark_some(turn_objects()) else {
                     unreachable!()
                 };
-                Ok(nothing_done())
+                Ok(Progress::nothing())
             }
             Phase::Waiting => {
                 let Ok(_) = self.poll_wait() else {
                     unreachable!()
                 };
-                Ok(nothing_done())
+                Ok(Progress::nothing())
             }
             Phase::Evacuating => self.evacuate_some(turn_objects()),
         }
@@ -94,7 +94,7 @@ impl<N: Near + Drop, D: Device + Drop> Evac<N, D> {
             Ok(logs) => logs,
             Err(why) => {
                 return Err(EvacFault {
-                    so_far: nothing_done(),
+                    so_far: Progress::nothing(),
                     why,
                 });
             }
@@ -119,7 +119,7 @@ impl<N: Near + Drop, D: Device + Drop> Evac<N, D> {
         ensures follows { Follows D.contents D.honest D.faults D.fails_at_most no_key (fails result) self.old.book.device self.new.book.device }
     {
         self.keeps_law();
-        let mut total = nothing_done();
+        let mut total = Progress::nothing();
         for _ in 0..turns {
             let waited = self.is_waiting();
             match self.turn_more(total) {
@@ -186,19 +186,6 @@ fn turn_objects() -> u64
     ensures { result ≡ turn_size }
 {
     16
-}
-
-// Nothing was done, and the round isn't over.
-pub(super) fn nothing_done() -> Progress
-    ensures { result ≡ progress_of nothing false }
-{
-    Progress {
-        moved: 0,
-        far: 0,
-        dropped: 0,
-        freed: 0,
-        done: false,
-    }
 }
 
 // What was done in two parts.

@@ -2,10 +2,10 @@
 //!
 //! [`Heap::run_round`]: crate::Heap::run_round
 
-ghost use Rattle.std.specs.Prelude.{◌≡◌, false, IfOk, IfErr};
+ghost use Rattle.std.specs.Prelude.{◌≡◌, IfOk, IfErr};
 ghost use Rattle.std.specs.List.{list_all};
 ghost use Rattle.far_policy.specs.Logs.{is_among};
-ghost use Rattle.far_evac.specs.Moment.{nothing, progress_of, tally_of};
+ghost use Rattle.far_evac.specs.Moment.{tally_of};
 ghost use Rattle.far_heap.specs.Rounds.{Chooses, ChoosesNone, StopsTurn, Turns, is_round_of};
 
 use crate::evacuator::{Evacuator, held};
@@ -14,19 +14,6 @@ use far_device::Device;
 use far_evac::{EvacFault, Phase, Progress};
 use far_policy::{Chosen, Policy};
 use far_word::Refused;
-
-// Nothing was done.
-pub(crate) fn nothing_done() -> Progress
-    ensures { result ≡ progress_of nothing false }
-{
-    Progress {
-        moved: 0,
-        far: 0,
-        dropped: 0,
-        freed: 0,
-        done: false,
-    }
-}
 
 // Whether each of these logs was chosen.
 pub(crate) fn has_each(chosen: &Chosen, logs: &[u8]) -> bool
@@ -65,7 +52,7 @@ impl<K: HeapName, D: Device + Drop> Evacuator<K, D> {
         self.keeps_law();
         if !self.is_round_of(chosen) {
             return Err(EvacFault {
-                so_far: nothing_done(),
+                so_far: Progress::nothing(),
                 why: Refused::Phase,
             });
         }

@@ -20,10 +20,15 @@ fn heap_of(handle: Handle) -> u64 {
     handle.to_bits() >> 32
 }
 
-// Objects go to the heaps in turn.
+// Objects go to the heaps in turn, of zeros or of bytes; one that has no length takes no turn.
 fn goes_round(pool: &mut Pool, count: u64) -> Result<bool, Refused> {
     for number in 0..count {
-        let handle = pool.alloc_zeros(1, 1)?;
+        let long = pool.alloc(&[], 1) == Err(Refused::Length);
+        let handle = if long && number % 2 == 0 {
+            pool.alloc(&[1], 1)?
+        } else {
+            pool.alloc_zeros(1, 1)?
+        };
         if heap_of(handle) != number % 3 {
             return Ok(false);
         }
@@ -58,6 +63,29 @@ fn a_worker_may_have_no_heap(rt: HostRuntime) {
     match pool(rt.alloc(), 0) {
         Ok(mut pool) => assert!(rt; pool.alloc(&[1], 1) == Err(Refused::NoPointer)),
         Err(_) => assert!(rt; false),
+    }
+}
+
+/// Heaps, logs, and why there is no worker of so many.
+#[rattlefmt::skip]
+const NONE: &[(u32, u64, Refused)] = &[
+    (1, 1, Refused::Shape),
+    (0, 65, Refused::Shape),
+    (2, u64::MAX, Refused::Shape),
+    (2_097_153, 64, Refused::NoPointer),
+    (u32::MAX, 0, Refused::NoPointer),
+];
+
+#[test]
+fn a_layout_may_be_refused(rt: HostRuntime) {
+    for (heaps, logs, why) in NONE {
+        let devices = MemDevices::new(rt.alloc());
+        let layout = Layout {
+            heaps: *heaps,
+            logs: *logs,
+        };
+        let refused = Worker::new(rt.alloc(), devices, layout, true).err() == Some(*why);
+        assert!(rt; refused, "{heaps} {logs}");
     }
 }
 

@@ -3,11 +3,12 @@
 ghost use Rattle.std.specs.Prelude.{◌≡◌, false};
 
 use crate::tests::large::pattern;
-use far_file::{FileDevice, MemStorage, Storage, StorageFault};
+use far_file::{FileDevice, MemStorage, NewFile, Storage, StorageFault};
 use far_large::Large;
-use far_pool::{Handle, Layout, MakeDevice, Worker};
+use far_pool::{FileDevices, Handle, Layout, MakeDevice, Worker};
 use far_word::Refused;
 use std::alloc::Global;
+use std::fs::File;
 
 /// Storage that takes nothing.
 #[derive(Drop)]
@@ -102,6 +103,29 @@ fn keeps_on(pool: &mut Pool) -> Result<bool, Refused> {
 fn what_no_device_takes_stays(rt: HostRuntime) {
     match pool(rt.alloc(), 2, 2) {
         Ok(mut pool) => assert!(rt; keeps_on(&mut pool) == Ok(true)),
+        Err(_) => assert!(rt; false),
+    }
+}
+
+// A full heap refuses more objects than it has pointers, and then takes short ones.
+fn stays_full(pool: &mut Pool) -> Result<bool, Refused> {
+    let mut last = None;
+    let (made, _) = fill(pool, &mut last);
+    for _ in 0..2100u16 {
+        if pool.alloc(&[9; 4000], 1) != Err(Refused::NoRoom) {
+            return Ok(false);
+        }
+    }
+    for _ in 0..3u8 {
+        let _ = pool.alloc(&[9], 1)?;
+    }
+    Ok(count(pool) == made.wrapping_add(3))
+}
+
+#[test]
+fn what_is_refused_takes_no_pointer(rt: HostRuntime) {
+    match pool(rt.alloc(), 1, 1) {
+        Ok(mut pool) => assert!(rt; stays_full(&mut pool) == Ok(true)),
         Err(_) => assert!(rt; false),
     }
 }
@@ -212,5 +236,34 @@ fn comes_back(alloc: Global, after: u64) -> Result<bool, Refused> {
 fn a_call_that_a_device_fails_loses_nothing(rt: HostRuntime) {
     for after in 0..40u64 {
         assert!(rt; comes_back(rt.alloc(), after) == Ok(true), "{after}");
+    }
+}
+
+// Whether each of two workers over one file has what it was given: 60 objects of a log each, of which most are far.
+fn are_apart(alloc: Global, file: File) -> Result<bool, Refused> {
+    let layout = Layout { heaps: 2, logs: 4 };
+    let devices = FileDevices::new(alloc, file)?;
+    let mut one = Worker::new(alloc, devices.try_clone()?, layout, false)?;
+    let mut other = Worker::new(alloc, devices, layout, false)?;
+    let mut handles = [Handle::from_bits(0); 60];
+    for number in 0..60u8 {
+        handles[number as usize] = one.alloc(&[number; 4000], 1)?;
+        other.alloc(&[!number; 4000], 1)?;
+    }
+    for number in 0..60u8 {
+        let mut out = [0; 4000];
+        one.read(handles[number as usize], 0, &mut out)?;
+        if out != [number; 4000] {
+            return Ok(false);
+        }
+    }
+    Ok(one.statistics().far > 40)
+}
+
+#[test]
+fn two_workers_use_one_file(rt: HostRuntime) {
+    match NewFile::new().replacing().open(&rt, "shared") {
+        Ok(file) => assert!(rt; are_apart(rt.alloc(), file) == Ok(true)),
+        Err(_) => assert!(rt; false),
     }
 }

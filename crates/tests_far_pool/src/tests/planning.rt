@@ -55,3 +55,20 @@ fn a_plan_by_bytes_alone(rt: HostRuntime) {
     assert!(rt; plan.objects == 3_728_270 && plan.lay_out().is_ok());
     assert!(rt; Plan::for_near(u64::MAX).lay_out().is_ok());
 }
+
+#[rattlefmt::skip]
+const TOLD: &[(Unplanned, &str)] = &[
+    (Unplanned::Length, "an object has 1 to 4088 bytes"),
+    (Unplanned::Objects(9), "a worker has at most 9 objects"),
+    (Unplanned::Near(8), "there is no room near for so many objects: 8 bytes would do"),
+];
+
+#[test]
+fn why_there_is_no_layout_is_told(rt: HostRuntime) {
+    for (why, told) in TOLD {
+        match format!(in rt.alloc(); "{why}") {
+            Ok(text) => assert!(rt; text.as_str() == *told),
+            Err(_) => assert!(rt; false),
+        }
+    }
+}

@@ -122,6 +122,35 @@ const UNUSED: &str = "bytes 0 8 9; many 1 4088; round 1 1; tell 4 2 1 0 1 0 0 8;
 // So does one that a write brought.
 const BROUGHT: &str = "fill 0 0 8 5; many 1 4088; round 64 1; tell 4 3 2 1 3 0 0 4096;";
 
+// What is written or updated where it lies was used.
+const WRITTEN: &str = "new 0 8; fill 0 0 8 5; many 1 4088; round 1 1; tell 4 2 0 0 0 0 0 0 1;";
+
+const CHANGED: &str = "new 0 8; add 0 0 8 1 0 1; many 1 4088; round 1 1; tell 4 2 0 0 0 0 0 0 1;";
+
+// A long one comes near too.
+const LONG: &str =
+    "new 0 4088; many 1 4088; round 64 1; has 0 0 4088; has 0 0 4088; tell 8 2 0 1 1 0 0 0 0 1;";
+
+// For one that is read again a round is made.
+const READ_MAKES_ROOM: &str =
+    "new 0 8; many 4 4088; has 0 0 8; has 0 0 8; tell 4 5 3 1 4 0 0 12264 0 1;";
+
+// After a round that the device stopped each call makes rounds as before.
+const STOPPED: &str = "new 0 100; many 1 4088; round 1 0 1; many 100 4088; has 0 0 100;";
+
+// A stubborn object behind eighteen that were dropped keeps none of the other logs either.
+const BEHIND_DROPPED: &str =
+    "new 1 8; new 2 8; new 3 8; new 4 8; new 5 8; new 6 8; new 7 8; new 8 8; new 9 8; \
+    new 10 8; new 11 8; new 12 8; new 13 8; new 14 8; new 15 8; new 16 8; new 17 8; new 18 8; new 0 100; \
+    drop 1; drop 2; drop 3; drop 4; drop 5; drop 6; drop 7; drop 8; drop 9; \
+    drop 10; drop 11; drop 12; drop 13; drop 14; drop 15; drop 16; drop 17; drop 18; many 100 4088; has 0 0 100;";
+
+// Of 255 far objects each is remembered, and comes near at its second read. They leave without a write, come again, and move once they were used. All of this is counted.
+const MANY_COME: &str =
+    "new 0 8; many 253 8; new 1 8; many 1 4088; round 64 1; once 0 255; tell 8 256 255 0 255 0 0 2040 0 255; \
+    once 0 255; tell 8 256 0 255 255 0 0 0 0 255; many 1 4088; round 64 2; tell 8 257 256 255 511 255 0 6128 0 255; \
+    once 0 255; once 0 255; once 0 255; many 1 4088; round 64 2; tell 8 258 3 510 513 256 0 8184 254 511;";
+
 // What is dropped is dead until its log is given back.
 const DEAD: &str =
     "new 0 8; new 1 100; drop 1; gone 16 112 0; many 1 4088; gone 4112 112 0; round 64 1 2; gone 4096 0 1;";
@@ -155,6 +184,13 @@ const PLAYS: &[Play] = &[
     Play { name: "a_call_moves_what_is_used", parts: &[KEPT_IN_USE], ..FOUR_LOGS },
     Play { name: "an_unused_object_leaves", parts: &[UNUSED, BROUGHT], ..FOUR_LOGS },
     Play { name: "bytes_of_logs_are_told", parts: &[DEAD], ..FOUR_LOGS },
+    Play { name: "a_written_object_moves", parts: &[WRITTEN], ..FOUR_LOGS },
+    Play { name: "an_updated_object_moves", parts: &[CHANGED], ..FOUR_LOGS },
+    Play { name: "a_long_object_comes_near", logs: 8, parts: &[LONG], ..FOUR_LOGS },
+    Play { name: "a_read_makes_room", parts: &[READ_MAKES_ROOM], ..FOUR_LOGS },
+    Play { name: "a_stopped_round_leaves_room", flaw: Flaw::Dislikes, at: 100, parts: &[STOPPED], ..FOUR_LOGS },
+    Play { name: "a_stubborn_object_behind_dropped_ones", flaw: Flaw::Dislikes, at: 100, parts: &[BEHIND_DROPPED], ..FOUR_LOGS },
+    Play { name: "many_come_leave_and_move", logs: 8, parts: &[MANY_COME], ..FOUR_LOGS },
     Play { name: "faults_are_counted", flaw: Flaw::Fails, at: 1, parts: &[FAULTS], ..FOUR_LOGS },
     Play { name: "one_failure_leaves_room", flaw: Flaw::Fails, at: 1, parts: &[PASSES], ..FOUR_LOGS },
     Play { name: "a_later_one_does", flaw: Flaw::Lacks, at: 5, parts: &[PASSES], ..FOUR_LOGS },

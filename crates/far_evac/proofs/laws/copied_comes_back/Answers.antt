@@ -1,6 +1,5 @@
 use Rattle.far_evac.proofs.laws.copied_comes_back.Goals as goal
-use Rattle.far_evac.proofs.BesideLeft.{left_has_jobs}
 use Rattle.far_evac.proofs.CopiedBack.{copied_comes_back}
 
 pub returns : goal.returns
-returns c = record { back = copied_comes_back; left = left_has_jobs }
+returns c = copied_comes_back

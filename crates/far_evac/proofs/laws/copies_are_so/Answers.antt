@@ -24,4 +24,5 @@ returns c = record {
   dropped_meanwhile = refl;
   taken_back = refl;
   no_job = refl;
+  each_log = refl;
 }

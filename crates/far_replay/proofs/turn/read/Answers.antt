@@ -1,5 +1,5 @@
 use Rattle.std.proofs.Common.{refl}
-use Rattle.far_text.specs.Command.{Mutator, Read}
+use Rattle.far_text.specs.Command.{Mutator, On, Reads}
 use Rattle.far_replay.specs.Moment.{moment_in}
 use Rattle.far_replay.specs.Outcome.{reply_by}
 use Rattle.far_replay.proofs.Given.{range_viewed, read_makes}
@@ -18,7 +18,7 @@ returns-in-Ok-clause-made c =
     let (o, x) = c.in-Ok.ensures.done in
     read_makes c.args.evac.now c.dereference.new.evac c.args.access o c.args.evac.now.book.near.core.law c.requires.access x c.dereference.ensures.round c.dereference.ensures.same (reply_by c.read_viewed.new.scratch c.read_viewed.result) c.read_viewed.ensures.reply
 
-vain : (c : In-Err) → let a = c.args.access in IsVain c.args.evac.now c.dereference.new.evac a.owner a.pointer (Mutator a.owner (Read a.pointer a.from a.count)) c.in-Err.why
+vain : (c : In-Err) → let a = c.args.access in IsVain c.args.evac.now c.dereference.new.evac a.owner a.pointer (Mutator a.owner (On a.pointer (Reads a.from a.count))) c.in-Err.why
 vain c =
     let is = c.requires.access in
     let call = c.in-Err.ensures in

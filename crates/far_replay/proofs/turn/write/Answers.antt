@@ -1,5 +1,5 @@
 use Rattle.std.proofs.Common.{◌∙◌, refl}
-use Rattle.far_text.specs.Command.{Mutator, Write}
+use Rattle.far_text.specs.Command.{Mutator, On, Writes}
 use Rattle.far_replay.specs.Moment.{moment_in, state_in}
 use Rattle.far_replay.proofs.Given.{range_soiled, range_viewed, write_makes}
 use Rattle.far_replay.proofs.RangeTurns.{writes_room}
@@ -26,7 +26,7 @@ returns-in-Ok-clause-made c =
     c.soil.new.evac c.write_viewed.new.evac c.args.bytes.now c.requires.bytes c.requires.small c.soil.ensures.state c.write_viewed.ensures.state (c.write_viewed.ensures.order ∙ c.soil.ensures.order)
     (c.write_viewed.ensures.round.0 ∙ c.soil.ensures.round.0, c.write_viewed.ensures.round.1 ∙ c.soil.ensures.round.1, c.write_viewed.ensures.round.2 ∙ c.soil.ensures.round.2) (c.write_viewed.ensures.device ∙ c.soil.ensures.device)
 
-vain : (c : In-Err) → let a = c.args.access in IsVain c.args.evac.now c.dereference.new.evac a.owner a.pointer (Mutator a.owner (Write a.pointer a.from c.args.bytes.now)) c.in-Err.why
+vain : (c : In-Err) → let a = c.args.access in IsVain c.args.evac.now c.dereference.new.evac a.owner a.pointer (Mutator a.owner (On a.pointer (Writes a.from c.args.bytes.now))) c.in-Err.why
 vain c =
     let is = c.requires.access in
     let call = c.in-Err.ensures in

@@ -3,7 +3,7 @@ use Rattle.far_word.specs.declared.sizes.TheConstants.{CELLS}
 use Rattle.far_core.specs.declared.machine.Core.{Core}
 use Rattle.far_core.specs.events.Step.{is_opened}
 use Rattle.far_core.specs.state.CoreState.{core_state}
-use Rattle.far_text.specs.Command.{Mutator, View}
+use Rattle.far_text.specs.Command.{Mutator, On, Views}
 use Rattle.far_replay.specs.Moment.{moment_in, state_in}
 use Rattle.far_reply.specs.Reply.{Done, Refused}
 use Rattle.far_replay.specs.Spent.{Makes}
@@ -20,10 +20,10 @@ returns-in-Ok-clause-made c = λ scratch.
     let mine = ap (λ q. q / CELLS) own.0 ∙ own.1 in
     let used : (state_in c.args.evac.now).used c.in-Some.pointer ≡ true = ap (state_in c.args.evac.now).used own.0 ∙ own.2 in
     let (o, x) = c.in-Ok.ensures.done in
-    subst (λ q. Makes c.args.evac.now (Mutator c.args.owner (View q)) Done c.dereference.new.evac) own.0
+    subst (λ q. Makes c.args.evac.now (Mutator c.args.owner (On q Views)) Done c.dereference.new.evac) own.0
     (view_makes c.args.evac.now c.dereference.new.evac c.args.owner c.in-Some.pointer o c.args.evac.now.book.near.core.law opened mine used x c.dereference.ensures.round c.dereference.ensures.same)
 
-vain : (c : In-Err) → IsVain c.args.evac.now c.dereference.new.evac c.args.owner c.in-Some.pointer (Mutator c.args.owner (View c.in-Some.pointer)) c.in-Err.why
+vain : (c : In-Err) → IsVain c.args.evac.now c.dereference.new.evac c.args.owner c.in-Some.pointer (Mutator c.args.owner (On c.in-Some.pointer Views)) c.in-Err.why
 vain c =
     let own = c.in-Some.ensures.own in
     let opened : is_opened (state_in c.args.evac.now) c.args.owner ≡ true = ap (λ (x : Core). is_opened (core_state x) c.args.owner) (sym c.core_of.ensures) ∙ sym c.is_open.ensures ∙ c.if-not-is_open.false in
@@ -35,4 +35,4 @@ vain c =
 
 pub returns-in-Err-clause-made : goal.returns-in-Err-clause-made
 returns-in-Err-clause-made c = λ scratch.
-    subst (λ q. Makes c.args.evac.now (Mutator c.args.owner (View q)) (Refused c.in-Err.why) c.dereference.new.evac) c.in-Some.ensures.own.0 (vain_made (vain (goal.at.returns-in-Err-clause-made c).In-Err))
+    subst (λ q. Makes c.args.evac.now (Mutator c.args.owner (On q Views)) (Refused c.in-Err.why) c.dereference.new.evac) c.in-Some.ensures.own.0 (vain_made (vain (goal.at.returns-in-Err-clause-made c).In-Err))

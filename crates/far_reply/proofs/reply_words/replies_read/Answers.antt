@@ -9,7 +9,7 @@ returns c = record {
   dones = refl;
   pointers = (refl, refl);
   bytes = refl;
-  epochs = refl;
+  epochs = (refl, refl);
   homes = (refl, refl, refl, refl, refl, refl, refl, refl, refl, refl);
   logs = refl;
   audits = refl;
@@ -20,5 +20,5 @@ returns c = record {
   rounds = (refl, refl, refl, refl, refl);
   refusals = (refl, refl, refl, refl, refl, refl, refl, refl, refl, refl, refl, refl, refl, refl);
   reasons = (refl, refl, refl, refl, refl);
-  halts = refl;
+  halts = (refl, refl);
 }

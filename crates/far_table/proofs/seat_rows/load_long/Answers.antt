@@ -1,73 +1,82 @@
-use Rattle.std.proofs.Common.{◌∙◌, ◌+◌, ◌*◌, ◌/◌, ◌%◌, ◌≤◌, length, take, refl, ap, arith}
-use borrow.Rule.Slice.PartMut.{put_mid}
+use Rattle.std.proofs.Common.{◌≡◌, ◌+◌, ◌-◌, ◌*◌, ◌/◌, ◌%◌, length, refl, ◌∙◌, subst, arith}
+use Rattle.far_table.specs.SeatRows.{RowLoaded}
 use Rattle.far_table.specs.Tells.{owner_of}
-use Rattle.far_table.proofs.RowParts.{LoadsRow, all_of, begin_fits, both_bytes, both_loaded_whole, head_inside, head_next, head_whole, head_words, loads_on, mid_blocks, mid_fits, mid_inside, past_fits}
+use Rattle.far_table.proofs.RowParts.{none_loaded, row_fits, row_later, row_part}
 use Rattle.far_table.proofs.seat_rows.load_long.Goals as goal
 
-pub overflow_add-begin : goal.overflow_add-begin
-overflow_add-begin g c = begin_fits c.args.places.now.items (owner_of c.args.seat.now.me.0) c.args.p c.args.begin c.args.first (length c.args.out.now) c.requires.places c.requires.held c.requires.begin c.requires.inside
+pub loop-done-init : goal.loop-done-init
+loop-done-init g c = record { table = refl; view = refl; long = refl; room = omega arith; whole = omega arith; loaded = none_loaded _ _ _ _ }
 
-pub load_to_thirty_one-requires : goal.load_to_thirty_one-requires
-load_to_thirty_one-requires g c =
-    let fits : length c.args.out.now % 256 ≤ length c.args.out.now = omega arith in record {
-      table = c.requires.table;
-      owner = c.requires.owner;
-      places = c.requires.places;
-      start = ap (λ z. z + c.args.first) c.requires.begin;
-      held = c.requires.held;
-      short = c.requires.short;
-      inside = head_inside c.args.first (length c.args.out.now % 256) _ c.args.out.now fits c.requires.inside;
-      whole = head_whole (length c.args.out.now % 256) c.args.out.now fits (omega (arith, c.requires.whole));
+pub load_rung-done-requires : goal.load_rung-done-requires
+load_rung-done-requires g c =
+    let i = c.loop-done.invariant in
+    let more = c.loop-done-test.true in record {
+      row = row_later _ _ _ _ _ _ _ c.requires.row _ _ _ i.table i.view i.long;
+      size = (omega arith, omega arith, omega arith, omega arith);
+      room = omega (arith, i.long, i.whole, i.room);
+      loaded = i.loaded;
     }
 
-pub slice_bounds-left-count : goal.slice_bounds-left-count
-slice_bounds-left-count g c = mid_fits (length c.args.out.now % 256) c.args.out.now c.load_to_thirty_one.new.out (omega arith) c.load_to_thirty_one.auto.out
-
-pub slice_bounds-left-start : goal.slice_bounds-left-start
-slice_bounds-left-start g c = mid_fits (length c.args.out.now % 256) c.args.out.now c.load_to_thirty_one.new.out (omega arith) c.load_to_thirty_one.auto.out
-
-pub slice_bounds-left-end : goal.slice_bounds-left-end
-slice_bounds-left-end g c = all_of (length (put_mid 0 (length c.args.out.now % 256) c.args.out.now c.load_to_thirty_one.new.out))
-
-pub overflow_add-first : goal.overflow_add-first
-overflow_add-first g c = past_fits c.args.places.now.items (owner_of c.args.seat.now.me.0) c.args.p c.args.begin c.args.first (length c.args.out.now) c.requires.places c.requires.held c.requires.begin c.requires.inside (length c.args.out.now % 256 / 8) (omega arith)
-
-pub load_blocks-requires : goal.load_blocks-requires
-load_blocks-requires g c =
-    let fits : length c.args.out.now % 256 ≤ length c.args.out.now = omega arith in
-    let r : LoadsRow c.args.seat.now.table_id c.args.shared.now.table_id c.args.seat.now.me.0 c.args.places.now.items c.args.p c.args.first (length c.args.out.now) = record {
-      table = c.requires.table;
-      owner = c.requires.owner;
-      places = c.requires.places;
-      held = c.requires.held;
-      short = c.requires.short;
-      inside = c.requires.inside;
-    } in
-    let s = loads_on _ _ _ _ _ _ _ _ (c.args.first + length c.args.out.now % 256 / 8) _ _ r c.load_to_thirty_one.ensures.table c.load_to_thirty_one.ensures.view
-    (mid_inside (length c.args.out.now % 256) c.args.out.now c.load_to_thirty_one.new.out fits c.load_to_thirty_one.auto.out c.args.first (c.args.first + length c.args.out.now % 256 / 8) (length c.args.out.now % 256 / 8) (omega (arith, c.requires.whole)) refl) in record {
-      table = s.table;
-      owner = s.owner;
-      places = s.places;
-      begin = c.requires.begin;
-      held = s.held;
-      short = s.short;
-      inside = s.inside;
-      whole = mid_blocks (length c.args.out.now % 256) c.args.out.now c.load_to_thirty_one.new.out fits c.load_to_thirty_one.auto.out refl;
+pub loop-done-preserved : goal.loop-done-preserved
+loop-done-preserved g c =
+    let i = c.loop-done.invariant in
+    let more = c.loop-done-test.true in
+    let d = c.load_rung-done in record {
+      table = d.ensures.table ∙ i.table;
+      view = d.ensures.view ∙ i.view;
+      long = d.auto.out ∙ i.long;
+      room = omega (arith, i.whole, d.ensures.sum);
+      whole = omega (arith, i.whole, d.ensures.sum);
+      loaded = d.ensures.loaded;
     }
 
-pub returns-clause-table : goal.returns-clause-table
-returns-clause-table g c = c.load_blocks.ensures.table ∙ c.load_to_thirty_one.ensures.table
+pub load_rung-low-requires : goal.load_rung-low-requires
+load_rung-low-requires g c =
+    let i = c.loop-done.invariant in
+    let all : c.loop-done.done ≡ length c.args.out.now / 8 - length c.args.out.now / 8 % 32 = omega (arith, c.loop-done-test.false, i.room, i.whole) in record {
+      row = row_later _ _ _ _ _ _ _ c.requires.row _ _ _ i.table i.view i.long;
+      size = (omega arith, omega arith, omega arith, omega arith);
+      room = omega (arith, i.long);
+      loaded = subst (λ k. RowLoaded c.args.p c.args.first k c.loop-done.out (owner_of c.loop-done.seat.me.0)) all i.loaded;
+    }
 
-pub returns-clause-view : goal.returns-clause-view
-returns-clause-view g c = c.load_blocks.ensures.view ∙ c.load_to_thirty_one.ensures.view
+pub load_rung-mid-requires : goal.load_rung-mid-requires
+load_rung-mid-requires g c =
+    let i = c.loop-done.invariant in
+    let l = c.load_rung-low in record {
+      row = row_later _ _ _ _ _ _ _ c.requires.row _ _ _ (l.ensures.table ∙ i.table) (l.ensures.view ∙ i.view) (l.auto.out ∙ i.long);
+      size = (omega arith, omega arith, omega arith, omega arith);
+      room = omega (arith, l.ensures.sum, l.auto.out, i.long);
+      loaded = l.ensures.loaded;
+    }
 
-pub returns-clause-bytes : goal.returns-clause-bytes
-returns-clause-bytes g c =
-    both_bytes (length c.args.out.now % 256) c.args.out.now c.load_to_thirty_one.new.out (omega arith) c.load_to_thirty_one.auto.out c.load_blocks.new.out c.load_blocks.auto.out _ _ c.load_to_thirty_one.ensures.view c.args.p (8 * c.args.first) (8 * (c.args.first + length c.args.out.now % 256 / 8)) (omega (arith, c.requires.whole)) c.load_to_thirty_one.ensures.bytes
-    c.load_blocks.ensures.bytes
+pub load_rung-high-requires : goal.load_rung-high-requires
+load_rung-high-requires g c =
+    let i = c.loop-done.invariant in
+    let l = c.load_rung-low in
+    let m = c.load_rung-mid in record {
+      row = row_later _ _ _ _ _ _ _ c.requires.row _ _ _ (m.ensures.table ∙ (l.ensures.table ∙ i.table)) (m.ensures.view ∙ (l.ensures.view ∙ i.view)) (m.auto.out ∙ (l.auto.out ∙ i.long));
+      size = (omega arith, omega arith, omega arith, omega arith);
+      room = omega (arith, l.ensures.sum, m.ensures.sum, l.auto.out, m.auto.out, i.long);
+      loaded = m.ensures.loaded;
+    }
 
-pub returns-clause-events : goal.returns-clause-events
-returns-clause-events g c =
-    let fits : length c.args.out.now % 256 ≤ length c.args.out.now = omega arith in
-    both_loaded_whole (length c.args.out.now % 256) c.args.out.now c.load_to_thirty_one.new.out (omega arith) c.load_to_thirty_one.auto.out c.load_blocks.new.out c.load_blocks.auto.out _ _ c.load_to_thirty_one.ensures.view c.args.p c.args.first (c.args.first + length c.args.out.now % 256 / 8) (length (take (length c.args.out.now % 256) c.args.out.now) / 8)
-    (head_words (length c.args.out.now % 256) c.args.out.now fits (omega (arith, c.requires.whole))) (head_next c.args.first (length c.args.out.now % 256) c.args.out.now fits) c.requires.whole c.load_to_thirty_one.ensures.events c.load_blocks.ensures.events
+pub overflow_add-start : goal.overflow_add-start
+overflow_add-start g c = row_fits _ _ _ _ _ _ _ c.requires.row c.load_rung-high.result (omega (arith, c.load_rung-low.ensures.sum, c.load_rung-mid.ensures.sum, c.load_rung-high.ensures.sum))
+
+pub load_some-requires : goal.load_some-requires
+load_some-requires g c =
+    let i = c.loop-done.invariant in
+    let l = c.load_rung-low in
+    let m = c.load_rung-mid in
+    let h = c.load_rung-high in
+    let r = row_later _ _ _ _ _ _ _ c.requires.row _ _ (length c.args.out.now) (h.ensures.table ∙ (m.ensures.table ∙ (l.ensures.table ∙ i.table))) (h.ensures.view ∙ (m.ensures.view ∙ (l.ensures.view ∙ i.view))) refl in record {
+      row = row_part _ _ _ _ _ _ _ r h.result (8 * (length c.args.out.now / 8 % 4)) _ _ refl refl (omega (arith, l.ensures.sum, m.ensures.sum, h.ensures.sum));
+      room = omega (arith, l.ensures.sum, m.ensures.sum, h.ensures.sum, l.auto.out, m.auto.out, h.auto.out, i.long);
+      loaded = h.ensures.loaded;
+    }
+
+pub returns-clause-loaded : goal.returns-clause-loaded
+returns-clause-loaded g c =
+    let all : c.load_rung-high.result + length c.args.out.now / 8 % 4 ≡ length c.args.out.now / 8 = omega (arith, c.load_rung-low.ensures.sum, c.load_rung-mid.ensures.sum, c.load_rung-high.ensures.sum) in
+    subst (λ k. RowLoaded c.args.p c.args.first k c.load_some.new.out (owner_of c.load_some.new.seat.me.0)) all c.load_some.ensures.loaded

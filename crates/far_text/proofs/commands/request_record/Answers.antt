@@ -1,6 +1,6 @@
 use Rattle.std.proofs.Common.{◌≡◌, ◌∙◌, ap, refl, subst, sym, ℕ, List, Option, Some, None, IfOk}
 use Rattle.std.specs.Option.{option_map}
-use Rattle.far_text.specs.Command.{Mutator, New, Read, Write}
+use Rattle.far_text.specs.Command.{Mutator, New, On, Reads, Writes}
 use Rattle.far_text.specs.Grammar.{bytes_in}
 use Rattle.far_text.specs.Records.{command_in}
 use Rattle.far_text.specs.Spelled.{request_spelled}
@@ -10,11 +10,11 @@ use Rattle.far_text.proofs.commands.request_record.Goals as goal
 made_new : (a m b len d structure : ℕ) → a ≡ m → b ≡ len → d ≡ structure → Some (Mutator a (New b d)) ≡ Some (Mutator m (New len structure))
 made_new a m b len d structure p q r = ap (λ x. Some (Mutator x (New b d))) p ∙ ap (λ x. Some (Mutator m (New x d))) q ∙ ap (λ x. Some (Mutator m (New len x))) r
 
-made_read : (a m b p d from e len : ℕ) → a ≡ m → b ≡ p → d ≡ from → e ≡ len → Some (Mutator a (Read b d e)) ≡ Some (Mutator m (Read p from len))
+made_read : (a m b p d from e len : ℕ) → a ≡ m → b ≡ p → d ≡ from → e ≡ len → Some (Mutator a (On b (Reads d e))) ≡ Some (Mutator m (On p (Reads from len)))
 made_read a m b p d from e len o q r s =
-    ap (λ x. Some (Mutator x (Read b d e))) o ∙ ap (λ x. Some (Mutator m (Read x d e))) q ∙ ap (λ x. Some (Mutator m (Read p x e))) r ∙ ap (λ x. Some (Mutator m (Read p from x))) s
+    ap (λ x. Some (Mutator x (On b (Reads d e)))) o ∙ ap (λ x. Some (Mutator m (On x (Reads d e)))) q ∙ ap (λ x. Some (Mutator m (On p (Reads x e)))) r ∙ ap (λ x. Some (Mutator m (On p (Reads from x)))) s
 
-made_write : (m p from : ℕ) (word : Option (List ℕ)) → option_map (λ read. Mutator m (Write p from read)) word ≡ option_map (Mutator m) (option_map (Write p from) word)
+made_write : (m p from : ℕ) (word : Option (List ℕ)) → option_map (λ read. Mutator m (On p (Writes from read))) word ≡ option_map (Mutator m) (option_map (λ read. On p (Writes from read)) word)
 made_write m p from None = refl
 made_write m p from (Some read) = refl
 

@@ -23,7 +23,7 @@ use Rattle.far_evac.proofs.Waits.{turns_wait, waiting_of}
 pub loop-init : goal.loop-init
 loop-init g c =
     let m = moment g.N.Near.view c.args.self.now in
-    let none : tally_of c.nothing_done-total.result ≡ nothing = ap tally_of c.nothing_done-total.ensures in
+    let none : tally_of c.nothing-total.result ≡ nothing = ap tally_of c.nothing-total.ensures in
     record {
       made = subst (λ total. Made g.N.Near.still g.row.D.Denot g.D.Device.writes g.D.Device.lets_go g.D.Device.contents m m 0 total c.args.self.now.book.device c.args.self.now.book.device) (sym none)
           (none_made c.args.self.now.book.device);

@@ -23,7 +23,7 @@ step g c = let e = c.in-Some.ensures in record {
 }
 
 pub has_evac-requires : goal.has_evac-requires
-has_evac-requires g c = record { layout = reads_there (step g (goal.at.has_evac-requires g c).After-keeps_law) }
+has_evac-requires g c = reads_there (step g (goal.at.has_evac-requires g c).After-keeps_law)
 
 pub returns-then-not-has_evac : goal.returns-then-not-has_evac
 returns-then-not-has_evac g c =

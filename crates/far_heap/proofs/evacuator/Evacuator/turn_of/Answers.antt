@@ -14,7 +14,7 @@ returns-then-not-is_round_of-clause-refused g c =
       named = k.named;
       lawful = (k.law, k.moment);
       came = record { calls = []; runs = refl };
-      barred = λ _. (refl, ap tally_of c.nothing_done.ensures, refl);
+      barred = λ _. (refl, ap tally_of c.nothing.ensures, refl);
       stops = λ runs. absurd (false≢true (sym other ∙ runs));
       asked = λ runs. absurd (false≢true (sym other ∙ runs));
     }

@@ -6,7 +6,7 @@ use Rattle.far_heap.proofs.RoundTurns.{idle_is, not_idle, sum_more, turns_run}
 use Rattle.far_heap.proofs.heap.Heap.make_turns.Goals as goal
 
 pub loop-init : goal.loop-init
-loop-init g c = ([], refl, (refl, refl), c.nothing_done-total.ensures)
+loop-init g c = ([], refl, (refl, refl), c.nothing-total.ensures)
 
 pub loop-preserved : goal.loop-preserved
 loop-preserved g c =

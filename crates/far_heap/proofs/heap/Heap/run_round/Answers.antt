@@ -3,7 +3,7 @@ use Rattle.far_heap.proofs.RoundTurns.{ends_nothing, ends_turns, stops_turns}
 use Rattle.far_heap.proofs.heap.Heap.run_round.Goals as goal
 
 pub returns-in-Err-clause-refused : goal.returns-in-Err-clause-refused
-returns-in-Err-clause-refused g c = inl (c.nothing_done.ensures, record { book = _; later = _; refuses = c.in-Err.ensures.refused })
+returns-in-Err-clause-refused g c = inl (c.nothing.ensures, record { book = _; later = _; refuses = c.in-Err.ensures.refused })
 
 pub returns-then-is_empty-clause-ended : goal.returns-then-is_empty-clause-ended
 returns-then-is_empty-clause-ended g c = (

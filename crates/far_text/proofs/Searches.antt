@@ -1,3 +1,0 @@
--- What a search for a byte says of those before it, and a test of ASCII of each byte.
-
--- ---- the bytes in front
