@@ -22,7 +22,7 @@ import typing
 
 
 class Refused(Exception):
-    """A call was refused, and changed nothing. Each status has a class of its own; `status` is its number."""
+    """A call was refused, and changed nothing. Each status has a class of its own; `status` is its number. A number that C has no room for is refused OverflowError."""
 
     status = 0
 
@@ -123,8 +123,25 @@ def _done(status: int) -> None:
         raise BY_STATUS[status](BY_STATUS[status].__doc__)
 
 
+def _fit(bits: int, *numbers: int) -> None:
+    """Refuses a number that C has no room for, which ctypes would cut to another. Shifted by so many bits only one that fits is 0."""
+    for number in numbers:
+        if number >> bits:
+            raise OverflowError(f"{number} is not within 0 and {(1 << bits) - 1}")
+
+
+def _path(folder: "str | os.PathLike") -> bytes:
+    """A folder as C has it, which ends a name at a byte 0."""
+    path = os.fsencode(folder)
+    if 0 in path:
+        raise ValueError("embedded null byte")
+    return path
+
+
 def least_near(objects: int, typical: int) -> int:
     """The fewest bytes near with which a worker can be opened."""
+    _fit(64, objects)
+    _fit(16, typical)
     told = c.c_uint64()
     _done(_lib.far_least_near(objects, typical, c.byref(told)))
     return told.value
@@ -163,6 +180,8 @@ class Worker(_Held):
     _close, _trim = _lib.far_close, _lib.far_trim
 
     def __init__(self, near: int, objects: int, typical: int, folder: "str | os.PathLike | None" = None, far: int = 0):
+        _fit(64, near, objects, far)
+        _fit(16, typical)
         self._held = _Worker()
         self._at = c.byref(self._held)
         self._buffer = c.create_string_buffer(4088)
@@ -171,10 +190,12 @@ class Worker(_Held):
         if folder is None:
             _done(_lib.far_open_memory(self._at, near, objects, typical))
         else:
-            _done(_lib.far_open_folder(self._at, near, objects, typical, os.fsencode(folder), far))
+            _done(_lib.far_open_folder(self._at, near, objects, typical, _path(folder), far))
 
     def alloc(self, data: bytes, structure: int = 0) -> int:
         """A new object of these bytes: its handle. `structure` is a number of the program's own choice, 0 to 255."""
+        if structure >> 8:
+            _fit(8, structure)
         status = _alloc(self._at, data, len(data), structure, self._number_at)
         if status:
             _done(status)
@@ -182,6 +203,8 @@ class Worker(_Held):
 
     def read(self, handle: int, start: int = 0, size: "int | None" = None) -> bytes:
         """Bytes of an object from `start` on: `size` of them, or all that there are."""
+        if handle >> 64 or start >> 64:
+            _fit(64, handle, start)
         if size is None:
             size = self.length(handle) - start
         if size < 0 or size > 4088:
@@ -193,12 +216,16 @@ class Worker(_Held):
 
     def write(self, handle: int, start: int, data: bytes) -> None:
         """Writes bytes over those of an object, from `start` on."""
+        if handle >> 64 or start >> 64:
+            _fit(64, handle, start)
         status = _write(self._at, handle, start, data, len(data))
         if status:
             _done(status)
 
     def exchange(self, handle: int, start: int, data: bytes) -> bytes:
         """Writes bytes over those of an object, from `start` on, and gives back those that were there."""
+        if handle >> 64 or start >> 64:
+            _fit(64, handle, start)
         other = c.create_string_buffer(data, len(data) or 1)
         status = _lib.far_exchange(self._at, handle, start, other, len(data))
         if status:
@@ -207,19 +234,23 @@ class Worker(_Held):
 
     def drop(self, handle: int) -> None:
         """The object is gone, and its handle is refused from then on."""
+        if handle >> 64:
+            _fit(64, handle)
         status = _drop(self._at, handle)
         if status:
             _done(status)
 
     def length(self, handle: int) -> int:
         """How many bytes an object has."""
+        if handle >> 64:
+            _fit(64, handle)
         status = _length(self._at, handle, self._short_at)
         if status:
             _done(status)
         return self._short.value
 
     def __contains__(self, handle: int) -> bool:
-        return _lib.far_holds(self._at, handle) == 0
+        return not handle >> 64 and _lib.far_holds(self._at, handle) == 0
 
     def add_heap(self) -> None:
         """Room for 2,048 objects more."""
@@ -251,6 +282,8 @@ class FarDict(_Held):
         far: int = 0,
         long_far: int = 1 << 24,
     ):
+        _fit(64, near, entries, long_parts, long_near or 0, far, long_far)
+        _fit(16, typical)
         self._held = _Map()
         self._at = c.byref(self._held)
         self._buffer, self._key = c.create_string_buffer(4088), c.create_string_buffer(4086)
@@ -263,7 +296,7 @@ class FarDict(_Held):
         if folder is None:
             _done(_lib.far_map_open_memory(self._at, c.byref(plan)))
         else:
-            _done(_lib.far_map_open_folder(self._at, c.byref(plan), os.fsencode(folder), far, long_far))
+            _done(_lib.far_map_open_folder(self._at, c.byref(plan), _path(folder), far, long_far))
 
     def get(self, key: bytes, default: "bytes | None" = None) -> "bytes | None":
         """The value of a key, or `default`."""

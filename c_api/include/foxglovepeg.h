@@ -134,13 +134,14 @@ int32_t far_alloc(struct far_worker *worker, const uint8_t *bytes, size_t len, u
 /* The same of len zeros. */
 int32_t far_alloc_zeros(struct far_worker *worker, uint16_t len, uint8_t structure, uint64_t *handle);
 
-/* Reads len bytes of an object, from byte `from` on, as they were written last. A far object comes near.
+/* Reads len bytes of an object, from byte `from` on, as they were written last. A far object is read where it lies, and comes near if it was read
+ * lately.
  *
- * FAR_CLOSED; FAR_NOT_HELD, exactly where there is no such object; FAR_RANGE, exactly where len is 0 or from + len is more than its length; FAR_NO_ROOM,
- * FAR_EPOCHS_SPENT, FAR_MEMORY, FAR_DEVICE, FAR_DAMAGED: the object is far and doesn't come. Then `out` may have other bytes. */
+ * FAR_CLOSED; FAR_NOT_HELD, exactly where there is no such object; FAR_RANGE, exactly where len is 0 or from + len is more than its length; FAR_MEMORY,
+ * FAR_DEVICE, FAR_DAMAGED: the object is far and can't be read. Then `out` is as it was. */
 int32_t far_read(struct far_worker *worker, uint64_t handle, size_t from, uint8_t *out, size_t len);
 
-/* Writes len bytes over those of an object, from byte `from` on. Refused as far_read is. */
+/* Writes len bytes over those of an object, from byte `from` on. Refused as far_read is, or FAR_NO_ROOM, FAR_EPOCHS_SPENT: the object is far and doesn't come. */
 int32_t far_write(struct far_worker *worker, uint64_t handle, size_t from, const uint8_t *bytes, size_t len);
 
 /* Writes len bytes over those of an object, from byte `from` on, and gives back in `bytes` those that were there: a read and a write. Refused as these are, and

@@ -68,6 +68,8 @@ macro_rules! errors {
         #[non_exhaustive]
         pub enum Error {
             $(#[doc = $words] $name,)*
+            /// A folder's name has a byte 0: no call was made. Its status is that of [`Error::File`].
+            InvalidInput,
             /// A status that this file doesn't know.
             Other(i32),
         }
@@ -77,6 +79,7 @@ macro_rules! errors {
             pub fn status(self) -> i32 {
                 match self {
                     $(Error::$name => $status,)*
+                    Error::InvalidInput => Error::File.status(),
                     Error::Other(status) => status,
                 }
             }
@@ -93,6 +96,7 @@ macro_rules! errors {
             fn fmt(&self, f: &mut fmt::Formatter<'_>) -> fmt::Result {
                 match self {
                     $(Error::$name => f.write_str($words),)*
+                    Error::InvalidInput => f.write_str("a folder's name has a byte 0"),
                     Error::Other(status) => write!(f, "status {status}"),
                 }
             }
@@ -172,9 +176,9 @@ pub fn least_near(objects: u64, typical: u16) -> Result<u64, Error> {
     Ok(bytes)
 }
 
-/// A folder as C has it; one with a byte 0 is no folder.
+/// A folder as C has it, which ends a name at a byte 0.
 fn path_of(folder: &Path) -> Result<CString, Error> {
-    CString::new(folder.as_os_str().as_bytes()).map_err(|_| Error::File)
+    CString::new(folder.as_os_str().as_bytes()).map_err(|_| Error::InvalidInput)
 }
 
 /// Objects of 1 to 4,088 bytes by handle.

@@ -5,6 +5,8 @@ use std::collections::HashMap;
 use std::path::Path;
 
 const WORDS: u64 = 5_000;
+/// A folder that C would take up to its byte 0.
+const NO_NAME: &str = "/tmp\0";
 
 fn count(folder: Option<&Path>) -> Result<(), Error> {
     let plan = MapPlan {
@@ -15,6 +17,7 @@ fn count(folder: Option<&Path>) -> Result<(), Error> {
         long_parts: 8,
         seed: [3, 5],
     };
+    assert!(matches!(Map::in_folder(plan, Path::new(NO_NAME), 1 << 24, 1 << 20), Err(Error::InvalidInput)));
     let mut map = match folder {
         Some(folder) => Map::in_folder(plan, folder, 1 << 24, 1 << 20)?,
         None => Map::in_memory(plan)?,
@@ -93,6 +96,7 @@ fn handles(folder: &Path) -> Result<(), Error> {
     assert_eq!(worker.len_of(handle), None);
     assert!(matches!(Worker::in_memory(1, 1, 64), Err(Error::Near)));
     assert!(matches!(Worker::in_folder(1 << 17, 1000, 64, Path::new("/no/such/folder"), 1 << 20), Err(Error::File)));
+    assert!(matches!(Worker::in_folder(1 << 17, 1000, 64, Path::new(NO_NAME), 1 << 20), Err(Error::InvalidInput)));
     Ok(())
 }
 

@@ -158,6 +158,38 @@ def goes() -> None:
     assert isinstance(far._lib, ctypes.PyDLL)
 
 
+def cut() -> None:
+    """A number that C has no room for is refused, where ctypes would cut it to one that is right, and a folder that C would cut."""
+    size, all_ = 1 << 18, 1 << 64
+    with far.Worker(size, 3000, 64) as worker:
+        handle = worker.alloc(b"hello", 255)
+        for number in handle + all_, handle - all_, -1:
+            calls = (worker.read,), (worker.read, 0, 1), (worker.write, 0, b"J"), (worker.exchange, 0, b"J"), (worker.drop,), (worker.length,)
+            for call, *words in calls:
+                refused(OverflowError, call, number, *words)
+            assert number not in worker
+        for start in all_, all_ + 1, 1 - all_, -1:
+            for call, word in (worker.read, 1), (worker.write, b"J"), (worker.exchange, b"J"):
+                refused(OverflowError, call, handle, start, word)
+        for structure in -1, 256:
+            refused(OverflowError, worker.alloc, b"x", structure)
+        refused(far.Range, worker.read, handle, all_ - 1, 1)
+        refused(far.NotHeld, worker.length, all_ - 1)
+        assert worker.read(handle) == b"hello" and worker.statistics().near_objects == 1
+    for words in (size + all_, 3000, 64), (size, 3000 - all_, 64), (size, 3000, 64 + (1 << 16)), (size, 3000, 64, tempfile.gettempdir(), all_ + (1 << 26)):
+        refused(OverflowError, far.Worker, *words)
+    for words in (all_ + 3000, 64), (3000, 64 - (1 << 16)):
+        refused(OverflowError, far.least_near, *words)
+    place = {"folder": tempfile.gettempdir(), "far": 1 << 26}
+    for word, number in ("near", size), ("entries", 3000), ("long_parts", 1000), ("long_near", size), ("far", 1 << 26), ("long_far", 1 << 24):
+        words = {"near": size, "entries": 3000, "typical": 64} | place | {word: number + all_}
+        refused(OverflowError, lambda: far.FarDict(**words))
+    refused(OverflowError, far.FarDict, size, 3000, 64 + (1 << 16))
+    place["folder"] += "\0"
+    for kind in far.Worker, far.FarDict:
+        refused(ValueError, lambda: kind(size, 3000, 64, **place))
+
+
 def resident() -> int:
     """Bytes of files that are in memory, and mapped to be written."""
     blocks = re.findall(r"^[0-9a-f]+-[0-9a-f]+ rw-s .*?^Rss: +(\d+) kB", pathlib.Path("/proc/self/smaps").read_text(), re.M | re.S)
@@ -168,6 +200,7 @@ def main() -> None:
     same_as_header()
     drawn()
     goes()
+    cut()
     calls = int(sys.argv[1]) if len(sys.argv) > 1 else 100_000
     refused(far.Near, far.Worker, far.least_near(3000, 64) - 1, 3000, 64)
     refused(far.File, far.Worker, 1 << 18, 3000, 64, "/no/such/folder", 1 << 26)

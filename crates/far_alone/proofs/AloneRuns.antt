@@ -10,30 +10,30 @@ use Rattle.far_word.specs.declared.pointer.Place.{Place}
 use Rattle.far_word.specs.declared.pointer.PtrWord.{PtrWord}
 use Rattle.far_word.specs.declared.pointer.PtrWord.TheVariants.{Free, Near, Far}
 use Rattle.far_word.specs.declared.sizes.TheConstants.{CELLS}
-use Rattle.far_core.specs.declared.event.Event.{Event}
-use Rattle.far_core.specs.declared.event.Event.TheVariants.{ReadEpoch, Open, Pin, Load, Store, Soil, Close, Adopt, Put, Name, See, Mark, Ask, Get, Clear, Advance, Look, Offer, PeekJob, SeeJob, Claim, ReadLength, Read, Write, Finish, Collect}
-use Rattle.far_core.specs.declared.event.Reply.{Reply as Answer}
-use Rattle.far_core.specs.declared.event.Reply.TheVariants.{Refused, Done, Epoch, Word, Held}
-use Rattle.far_core.specs.declared.naming.Naming.{Naming}
-use Rattle.far_core.specs.declared.naming.Naming.TheVariants.{Places, Retires, Evicts, Stays, Moves, Fetches}
-use Rattle.far_core.specs.events.Name.{change_by}
-use Rattle.far_core.specs.events.Naming.{is_dropped, naming_of, unmarked}
+use Rattle.far_events.specs.declared.event.Event.{Event}
+use Rattle.far_events.specs.declared.event.Event.TheVariants.{ReadEpoch, Open, Pin, Load, Store, Soil, Close, Adopt, Put, Name, See, Mark, Ask, Get, Clear, Advance, Look, Offer, PeekJob, SeeJob, Claim, ReadLength, Read, Write, Finish, Collect}
+use Rattle.far_events.specs.declared.event.Reply.{Reply as Answer}
+use Rattle.far_events.specs.declared.event.Reply.TheVariants.{Refused, Done, Epoch, Word, Held}
+use Rattle.far_events.specs.declared.naming.Naming.{Naming}
+use Rattle.far_events.specs.declared.naming.Naming.TheVariants.{Places, Retires, Evicts, Stays, Moves, Fetches}
+use Rattle.far_events.specs.events.Name.{change_by}
+use Rattle.far_events.specs.events.Naming.{is_dropped, naming_of, unmarked}
 use Rattle.far_core.specs.world.Changes.{StepOf}
 use Rattle.far_core.specs.world.Happens.{Happens}
-use Rattle.far_core.proofs.Namings.{naming_says}
-use Rattle.far_core.specs.state.Law.{Law}
-use Rattle.far_core.specs.events.Legal.{Legal}
-use Rattle.far_core.specs.state.State.{State, put}
-use Rattle.far_core.specs.events.Step.{step_of, Fits, is_legal, after, answer}
+use Rattle.far_events.proofs.Namings.{naming_says}
+use Rattle.far_events.specs.state.Law.{Law}
+use Rattle.far_events.specs.events.Legal.{Legal}
+use Rattle.far_events.specs.state.State.{State, put}
+use Rattle.far_events.specs.events.Step.{step_of, Fits, is_legal, after, answer}
 use Rattle.far_core.specs.world.World.{World, Object, Group}
 use Rattle.far_core.specs.world.WorldOf.{world_of}
 use Rattle.far_core.specs.world.Steps.{Makes, Writes, with_bytes}
 use Rattle.far_core.proofs.Keeps.{step_keeps}
 use Rattle.far_core.proofs.Owing.{is_fact}
-use Rattle.far_core.proofs.Put.{put_same, put_other, put_old}
+use Rattle.far_events.proofs.Put.{put_same, put_other, put_old}
 use Rattle.far_core.proofs.Steps.{step_does}
 use Rattle.far_alone.specs.Own.{Own, own_of, bytes_in_world}
-use Rattle.far_core.specs.events.Ranges.{after_events}
+use Rattle.far_events.specs.events.Ranges.{after_events}
 use Rattle.far_alone.specs.EventRows.{Succeeds, AllSucceed, ComesToPass}
 use Rattle.far_alone.specs.Events.{store_events, view_events}
 use Rattle.std.specs.List.{AllByRecursion as Each}

@@ -11,12 +11,12 @@ use Rattle.far_word.specs.declared.sizes.TheConstants.{CELLS}
 use Rattle.far_word.specs.Bytes.{bytes_of}
 use Rattle.far_word.specs.Pointer.{read_of}
 use Rattle.far_word.proofs.ByteLaws.{length-bytes_of, bytes_of-small}
-use Rattle.far_core.specs.state.Law.{Law, in_use}
-use Rattle.far_core.specs.state.State.{State, addr}
-use Rattle.far_core.specs.events.Step.{is_opened, near_data, near_len, data_len}
+use Rattle.far_events.specs.state.Law.{Law, in_use}
+use Rattle.far_events.specs.state.State.{State, addr}
+use Rattle.far_events.specs.events.Step.{is_opened, near_data, near_len, data_len}
 use Rattle.far_core.specs.world.World.{Object, Group, FarSide}
 use Rattle.far_core.specs.world.WorldOf.{world_of, object_of}
-use Rattle.far_core.proofs.Cells.{held_near, unused}
+use Rattle.far_events.proofs.Cells.{held_near, unused}
 use Rattle.far_alone.specs.Own.{own_of, bytes_in_world}
 use Rattle.far_alone.specs.Objects.{uses, object_len, named_len, data_of, is_range, lowest_cell}
 use Rattle.far_alone.proofs.Lowest.{lowest_cell_is, no_cell_is}

@@ -10,25 +10,25 @@ use Rattle.far_word.specs.declared.pointer.PtrWord.TheVariants.{Near, Far}
 use Rattle.far_word.specs.declared.sizes.TheConstants.{CELLS}
 use Rattle.far_word.specs.Mark.{marks_with}
 use Rattle.far_word.specs.Pointer.{read_of}
-use Rattle.far_core.specs.events.Copied.{copied_job}
-use Rattle.far_core.specs.events.namings.Moves.{after_move}
-use Rattle.far_core.specs.declared.event.Event.TheVariants.{Ask, Name}
-use Rattle.far_core.specs.declared.naming.Naming.{Naming}
-use Rattle.far_core.specs.declared.naming.Naming.TheVariants.{Stays, Moves}
-use Rattle.far_core.specs.events.Legal.{Legal}
-use Rattle.far_core.specs.events.Name.{after_naming}
-use Rattle.far_core.specs.events.Naming.{naming_of, naming_row}
-use Rattle.far_core.specs.events.Step.{after, after_pin, is_opened}
-use Rattle.far_core.specs.state.Law.{Law, in_use}
-use Rattle.far_core.specs.state.State.{State}
-use Rattle.far_core.proofs.Cells.{map_mark}
-use Rattle.far_core.proofs.Guards.{open_fact}
+use Rattle.far_events.specs.events.Copied.{copied_job}
+use Rattle.far_events.specs.events.namings.Moves.{after_move}
+use Rattle.far_events.specs.declared.event.Event.TheVariants.{Ask, Name}
+use Rattle.far_events.specs.declared.naming.Naming.{Naming}
+use Rattle.far_events.specs.declared.naming.Naming.TheVariants.{Stays, Moves}
+use Rattle.far_events.specs.events.Legal.{Legal}
+use Rattle.far_events.specs.events.Name.{after_naming}
+use Rattle.far_events.specs.events.Naming.{naming_of, naming_row}
+use Rattle.far_events.specs.events.Step.{after, after_pin, is_opened}
+use Rattle.far_events.specs.state.Law.{Law, in_use}
+use Rattle.far_events.specs.state.State.{State}
+use Rattle.far_events.proofs.Cells.{map_mark}
+use Rattle.far_events.proofs.Guards.{open_fact}
 use Rattle.far_core.proofs.KeepOwner.{nonzero}
 use Rattle.far_core.proofs.Marking.{read_mark}
-use Rattle.far_core.proofs.Put.{put_same, put_other}
+use Rattle.far_events.proofs.Put.{put_same, put_other}
 use Rattle.far_book.specs.book.Dealing.{goal, has_evac, moved_now, order_moved}
 use Rattle.far_hand.specs.Quiet.{IsQuietNear}
-use Rattle.far_core.specs.events.Copies.{data_at}
+use Rattle.far_events.specs.events.Copies.{data_at}
 use Rattle.far_book.specs.book.Effects.{fetched, fetched_of, moved, moved_of, near_word, order_after, stayed, stayed_of, with_written_span}
 use Rattle.far_book.specs.book.Fetching.{IsFar, RefusesFetch, room_for}
 use Rattle.far_word.specs.declared.refused.Refused.{Refused as Refusal}

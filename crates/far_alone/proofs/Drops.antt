@@ -13,25 +13,25 @@ use Rattle.far_word.specs.Pointer.{read_of}
 use Rattle.far_word.specs.Sizes.{bytes_taken}
 use Rattle.far_log.specs.declared.span.Span.{Span}
 use Rattle.far_log.specs.Spans.{taken_by}
-use Rattle.far_core.specs.declared.event.Event.{Event}
-use Rattle.far_core.specs.declared.event.Event.TheVariants.{Ask as Asks, See as Sees, Name as Names}
-use Rattle.far_core.specs.declared.event.Reply.TheVariants.{Done as Made, Word}
-use Rattle.far_core.specs.declared.naming.Naming.{Naming}
-use Rattle.far_core.specs.declared.naming.Naming.TheVariants.{Retires}
-use Rattle.far_core.specs.events.Legal.{Legal}
-use Rattle.far_core.specs.events.Name.{after_naming}
-use Rattle.far_core.specs.events.Naming.{is_dropped, naming_of}
-use Rattle.far_core.specs.events.Step.{Fits, after, answer, is_legal}
+use Rattle.far_events.specs.declared.event.Event.{Event}
+use Rattle.far_events.specs.declared.event.Event.TheVariants.{Ask as Asks, See as Sees, Name as Names}
+use Rattle.far_events.specs.declared.event.Reply.TheVariants.{Done as Made, Word}
+use Rattle.far_events.specs.declared.naming.Naming.{Naming}
+use Rattle.far_events.specs.declared.naming.Naming.TheVariants.{Retires}
+use Rattle.far_events.specs.events.Legal.{Legal}
+use Rattle.far_events.specs.events.Name.{after_naming}
+use Rattle.far_events.specs.events.Naming.{is_dropped, naming_of}
+use Rattle.far_events.specs.events.Step.{Fits, after, answer, is_legal}
 use Rattle.far_core.specs.laws.Observed.{live_bytes, dead_bytes, unused_bytes}
-use Rattle.far_core.specs.state.Law.{Law, in_use}
-use Rattle.far_core.specs.state.Spans.{spans_of, is_live, names_place}
-use Rattle.far_core.specs.state.State.{State, put}
+use Rattle.far_events.specs.state.Law.{Law, in_use}
+use Rattle.far_events.specs.state.Spans.{spans_of, is_live, names_place}
+use Rattle.far_events.specs.state.State.{State, put}
 use Rattle.far_core.specs.world.World.{World, Object}
 use Rattle.far_core.specs.world.WorldOf.{world_of}
-use Rattle.far_core.proofs.Cells.{map_mark, unused}
+use Rattle.far_events.proofs.Cells.{map_mark, unused}
 use Rattle.far_core.proofs.Observations.{bytes_make_log}
 use Rattle.far_core.proofs.Owing.{keeps, is_test}
-use Rattle.far_core.proofs.Put.{put_both, put_same, put_other}
+use Rattle.far_events.proofs.Put.{put_both, put_same, put_other}
 use Rattle.far_core.proofs.events.Ask.{reads, drop_drops}
 use Rattle.far_book.specs.book.Effects.{retired, with_free_cell}
 use Rattle.far_book.proofs.region.Reaching.{retiring}
@@ -39,7 +39,7 @@ use Rattle.far_book.proofs.region.Retires.{retired_is, may_retire, live_here, li
 use Rattle.far_book.proofs.region.SpanLists.{taken_same}
 use Rattle.far_alone.specs.Own.{own_of, bytes_in_world}
 use Rattle.far_alone.specs.Effects.{without_object}
-use Rattle.far_core.specs.events.Ranges.{after_events}
+use Rattle.far_events.specs.events.Ranges.{after_events}
 use Rattle.far_alone.specs.EventRows.{Succeeds, AllSucceed, ComesToPass, AllComeToPass}
 use Rattle.far_alone.specs.Events.{drop_events}
 use Rattle.far_alone.specs.Objects.{uses}

@@ -6,16 +6,16 @@ use Rattle.far_word.specs.declared.sizes.TheConstants.{LOG_WORDS}
 use Rattle.far_word.specs.Header.{IsHead, head_word}
 use Rattle.far_word.specs.Sizes.{size_of, words_for}
 use Rattle.far_word.proofs.HeaderLaws.{head_fits}
-use Rattle.far_core.specs.declared.event.Event.{Event}
-use Rattle.far_core.specs.declared.event.Event.TheVariants.{Put as Puts}
-use Rattle.far_core.specs.declared.event.Kind.TheVariants.{Sealed}
-use Rattle.far_core.specs.declared.event.Reply.{Reply}
-use Rattle.far_core.specs.events.Legal.{IsNext, Legal}
-use Rattle.far_core.specs.events.Ranges.{AllLegal, after_events}
-use Rattle.far_core.specs.events.Step.{Fits, after, answer, is_legal, step_of}
-use Rattle.far_core.specs.state.Law.{Law}
-use Rattle.far_core.specs.state.State.{State, put, addr}
-use Rattle.far_core.proofs.NewSpans.{at_tail}
+use Rattle.far_events.specs.declared.event.Event.{Event}
+use Rattle.far_events.specs.declared.event.Event.TheVariants.{Put as Puts}
+use Rattle.far_events.specs.declared.event.Kind.TheVariants.{Sealed}
+use Rattle.far_events.specs.declared.event.Reply.{Reply}
+use Rattle.far_events.specs.events.Legal.{IsNext, Legal}
+use Rattle.far_events.specs.events.Ranges.{AllLegal, after_events}
+use Rattle.far_events.specs.events.Step.{Fits, after, answer, is_legal, step_of}
+use Rattle.far_events.specs.state.Law.{Law}
+use Rattle.far_events.specs.state.State.{State, put, addr}
+use Rattle.far_events.proofs.NewSpans.{at_tail}
 use Rattle.far_core.proofs.Owing.{is_test, keeps, never_refused}
 use Rattle.far_core.proofs.Ranges.{row_made}
 use Rattle.far_book.specs.book.Effects.{with_written_span}

@@ -1,15 +1,15 @@
 -- Events made one after the other: parts put together, and the law that they keep.
 use Rattle.std.proofs.Common.{◌≡◌, ◌≢◌, ℕ, true, cond, refl, sym, ap, subst, List, [], ◌∷◌, ◌++◌}
 use Rattle.std.proofs.lemmas.Bool.{cond_both}
-use Rattle.far_core.specs.declared.event.Event.{Event}
-use Rattle.far_core.specs.declared.event.Event.TheVariants.{Load}
-use Rattle.far_core.specs.declared.event.Reply.{Reply}
-use Rattle.far_core.specs.declared.event.Reply.TheVariants.{Refused}
-use Rattle.far_core.specs.state.Law.{Law}
-use Rattle.far_core.specs.state.State.{State}
-use Rattle.far_core.specs.events.Step.{step_of, is_legal, after, answer, Fits}
+use Rattle.far_events.specs.declared.event.Event.{Event}
+use Rattle.far_events.specs.declared.event.Event.TheVariants.{Load}
+use Rattle.far_events.specs.declared.event.Reply.{Reply}
+use Rattle.far_events.specs.declared.event.Reply.TheVariants.{Refused}
+use Rattle.far_events.specs.state.Law.{Law}
+use Rattle.far_events.specs.state.State.{State}
+use Rattle.far_events.specs.events.Step.{step_of, is_legal, after, answer, Fits}
 use Rattle.far_core.proofs.Keeps.{step_keeps}
-use Rattle.far_core.specs.events.Ranges.{after_events}
+use Rattle.far_events.specs.events.Ranges.{after_events}
 use Rattle.far_alone.specs.EventRows.{Succeeds, AllSucceed, ComesToPass, AllComeToPass}
 use Rattle.std.specs.List.{AllByRecursion as Each}
 

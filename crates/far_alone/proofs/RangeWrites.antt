@@ -13,14 +13,14 @@ use Rattle.far_word.proofs.ByteLaws.{bytes_of-get, length-bytes_of}
 use Rattle.far_word.specs.declared.pointer.PtrWord.{PtrWord}
 use Rattle.far_word.specs.declared.pointer.PtrWord.TheVariants.{Near}
 use Rattle.far_word.specs.Pointer.{read_of}
-use Rattle.far_core.specs.state.Law.{Law, head_len}
-use Rattle.far_core.specs.state.State.{State, addr}
-use Rattle.far_core.specs.events.Step.{near_len, near_data, data_len}
-use Rattle.far_core.specs.state.Words.{with_bytes}
-use Rattle.far_core.specs.events.Ranges.{with_row}
-use Rattle.far_core.proofs.Bounds.{span_len}
-use Rattle.far_core.proofs.Rows.{row_in, row_out}
-use Rattle.far_core.proofs.Words.{word_same}
+use Rattle.far_events.specs.state.Law.{Law, head_len}
+use Rattle.far_events.specs.state.State.{State, addr}
+use Rattle.far_events.specs.events.Step.{near_len, near_data, data_len}
+use Rattle.far_events.specs.state.Words.{with_bytes}
+use Rattle.far_events.specs.events.Ranges.{with_row}
+use Rattle.far_events.proofs.Bounds.{span_len}
+use Rattle.far_events.proofs.Rows.{row_in, row_out}
+use Rattle.far_events.proofs.Words.{word_same}
 use Rattle.far_alone.specs.Objects.{with_range}
 use Rattle.far_alone.proofs.Spliced.{with_range_before, with_range_inside, with_range_after}
 

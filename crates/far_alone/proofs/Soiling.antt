@@ -9,14 +9,14 @@ use Rattle.far_word.specs.Bytes.{bytes_of}
 use Rattle.far_word.specs.Mark.{marks_with, position}
 use Rattle.far_word.specs.Pointer.{read_of, word_of}
 use Rattle.far_word.proofs.PointerLaws.{read_says, with_mark_word}
-use Rattle.far_core.specs.declared.event.Event.TheVariants.{Soil as Soils}
-use Rattle.far_core.specs.events.Legal.{HoldsObject, Legal}
-use Rattle.far_core.specs.events.Soil.{after_soil}
-use Rattle.far_core.specs.events.Step.{data_len, near_data, near_len}
-use Rattle.far_core.specs.state.Law.{Law, is_dirty}
-use Rattle.far_core.specs.state.State.{State, put}
-use Rattle.far_core.proofs.Cells.{map_mark}
-use Rattle.far_core.proofs.Put.{put_old, put_same}
+use Rattle.far_events.specs.declared.event.Event.TheVariants.{Soil as Soils}
+use Rattle.far_events.specs.events.Legal.{HoldsObject, Legal}
+use Rattle.far_events.specs.events.Soil.{after_soil}
+use Rattle.far_events.specs.events.Step.{data_len, near_data, near_len}
+use Rattle.far_events.specs.state.Law.{Law, is_dirty}
+use Rattle.far_events.specs.state.State.{State, put}
+use Rattle.far_events.proofs.Cells.{map_mark}
+use Rattle.far_events.proofs.Put.{put_old, put_same}
 use Rattle.far_core.proofs.events.Soil.{keeps_soil, reads}
 use Rattle.far_alone.specs.Events.{soil_events}
 use Rattle.far_alone.specs.Objects.{data_of}

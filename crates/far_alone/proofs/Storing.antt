@@ -5,14 +5,14 @@ use Rattle.std.specs.List.{range_with_len}
 use Rattle.std.proofs.lemmas.Bool.{eq-eqb}
 use Rattle.far_word.specs.Bytes.{packed_word}
 use Rattle.far_word.specs.declared.sizes.TheConstants.{CELLS}
-use Rattle.far_core.specs.declared.event.Event.{Event}
-use Rattle.far_core.specs.declared.event.Event.TheVariants.{Load as Loads, Store as Stores}
-use Rattle.far_core.specs.events.Ranges.{stores}
-use Rattle.far_core.specs.events.Step.{data_len, data_word}
-use Rattle.far_core.specs.events.Written.{written_words}
-use Rattle.far_core.specs.state.Law.{Law}
-use Rattle.far_core.specs.state.State.{State}
-use Rattle.far_core.proofs.Splices.{written_get, written_long}
+use Rattle.far_events.specs.declared.event.Event.{Event}
+use Rattle.far_events.specs.declared.event.Event.TheVariants.{Load as Loads, Store as Stores}
+use Rattle.far_events.specs.events.Ranges.{stores}
+use Rattle.far_events.specs.events.Step.{data_len, data_word}
+use Rattle.far_events.specs.events.Written.{written_words}
+use Rattle.far_events.specs.state.Law.{Law}
+use Rattle.far_events.specs.state.State.{State}
+use Rattle.far_events.proofs.Splices.{written_get, written_long}
 use Rattle.far_alone.specs.Events.{first_word, store_events, words_touched}
 use Rattle.far_alone.specs.Objects.{data_of, uses, with_range}
 use Rattle.far_alone.proofs.RangeWrites.{object_padded, rows_same, written_word}

@@ -11,20 +11,20 @@ use Rattle.far_word.specs.declared.pointer.PtrWord.TheVariants.{Near}
 use Rattle.far_word.specs.declared.sizes.TheConstants.{CELLS}
 use Rattle.far_word.specs.Mark.{position, marks_with}
 use Rattle.far_word.specs.Pointer.{read_of}
-use Rattle.far_core.specs.declared.event.Event.TheVariants.{Pin}
-use Rattle.far_core.specs.state.Law.{Law}
-use Rattle.far_core.specs.events.Legal.{HoldsObject}
-use Rattle.far_core.specs.state.State.{State}
-use Rattle.far_core.specs.events.Step.{answer, is_legal, is_opened, near_data, near_len, data_len, place_to_view, after_pin, with_hold}
-use Rattle.far_core.proofs.Cells.{map_mark, IsHeld, held_near, held_place-place_to_view}
+use Rattle.far_events.specs.declared.event.Event.TheVariants.{Pin}
+use Rattle.far_events.specs.state.Law.{Law}
+use Rattle.far_events.specs.events.Legal.{HoldsObject}
+use Rattle.far_events.specs.state.State.{State}
+use Rattle.far_events.specs.events.Step.{answer, is_legal, is_opened, near_data, near_len, data_len, place_to_view, after_pin, with_hold}
+use Rattle.far_events.proofs.Cells.{map_mark, IsHeld, held_near, held_place-place_to_view}
 use Rattle.far_core.proofs.KeepOwner.{hot_read}
 use Rattle.far_core.proofs.events.Pin.{keeps_pin}
-use Rattle.far_core.proofs.Guards.{open_fact}
+use Rattle.far_events.proofs.Guards.{open_fact}
 use Rattle.far_core.proofs.Owing.{is_test, never_refused}
-use Rattle.far_core.proofs.Put.{put_same, put_other}
+use Rattle.far_events.proofs.Put.{put_same, put_other}
 use Rattle.far_alone.specs.Effects.{with_view, is_slow}
 use Rattle.far_alone.specs.Dereference.{come, comes_to, dereferenced, has_no_room, says_near, sought}
-use Rattle.far_core.specs.events.Ranges.{after_events}
+use Rattle.far_events.specs.events.Ranges.{after_events}
 use Rattle.far_alone.specs.EventRows.{AllSucceed, AtHand}
 use Rattle.far_alone.specs.Between.{Between}
 use Rattle.far_alone.specs.Events.{view_events}

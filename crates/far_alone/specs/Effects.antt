@@ -5,11 +5,11 @@ use Rattle.far_word.specs.declared.pointer.Place.{Place}
 use Rattle.far_word.specs.Bytes.{packed_word}
 use Rattle.far_word.specs.Pointer.{read_of}
 use Rattle.far_word.specs.Sizes.{words_for}
-use Rattle.far_core.specs.events.Ranges.{with_row}
-use Rattle.far_core.specs.declared.event.Event.TheVariants.{Adopt, Ask}
-use Rattle.far_core.specs.events.Soil.{after_soil}
-use Rattle.far_core.specs.events.Step.{after, after_pin, scope_word_of, near_data, data_len, place_to_view}
-use Rattle.far_core.specs.state.State.{State, put}
+use Rattle.far_events.specs.events.Ranges.{with_row}
+use Rattle.far_events.specs.declared.event.Event.TheVariants.{Adopt, Ask}
+use Rattle.far_events.specs.events.Soil.{after_soil}
+use Rattle.far_events.specs.events.Step.{after, after_pin, scope_word_of, near_data, data_len, place_to_view}
+use Rattle.far_events.specs.state.State.{State, put}
 use Rattle.far_book.specs.book.Effects.{placed, retired}
 use Rattle.far_alone.specs.Objects.{data_of, with_range}
 

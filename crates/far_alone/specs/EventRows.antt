@@ -4,12 +4,12 @@ use Rattle.far_word.specs.declared.mark.Marks.{Marks}
 use Rattle.far_word.specs.declared.pointer.Place.{Place}
 use Rattle.far_word.specs.declared.pointer.PtrWord.TheVariants.{Near}
 use Rattle.far_word.specs.Pointer.{read_of}
-use Rattle.far_core.specs.declared.event.Event.{Event}
-use Rattle.far_core.specs.declared.event.Event.TheVariants.{Pin, Name}
-use Rattle.far_core.specs.declared.event.Reply.{Reply}
-use Rattle.far_core.specs.declared.event.Reply.TheVariants.{Refused, Word}
-use Rattle.far_core.specs.state.State.{State}
-use Rattle.far_core.specs.events.Step.{step_of, is_legal}
+use Rattle.far_events.specs.declared.event.Event.{Event}
+use Rattle.far_events.specs.declared.event.Event.TheVariants.{Pin, Name}
+use Rattle.far_events.specs.declared.event.Reply.{Reply}
+use Rattle.far_events.specs.declared.event.Reply.TheVariants.{Refused, Word}
+use Rattle.far_events.specs.state.State.{State}
+use Rattle.far_events.specs.events.Step.{step_of, is_legal}
 use Rattle.far_core.specs.world.Runs.{Passes}
 
 -- the event isn't refused

@@ -9,11 +9,11 @@ use Rattle.far_word.specs.Bytes.{packed_word}
 use Rattle.far_word.specs.Header.{head_word}
 use Rattle.far_word.specs.Pointer.{read_of}
 use Rattle.far_word.specs.Sizes.{words_for}
-use Rattle.far_core.specs.events.Copies.{data_at}
-use Rattle.far_core.specs.declared.event.Event.{Event}
-use Rattle.far_core.specs.declared.event.Event.TheVariants.{ReadEpoch as ReadsEpoch, Open as Opens, Pin as Pins, Load as Loads, Store as Stores, Soil as Soils, Adopt as Adopts, Put as Puts, Name as Names, Ask as Asks, See as Sees}
-use Rattle.far_core.specs.events.Step.{after}
-use Rattle.far_core.specs.state.State.{State}
+use Rattle.far_events.specs.events.Copies.{data_at}
+use Rattle.far_events.specs.declared.event.Event.{Event}
+use Rattle.far_events.specs.declared.event.Event.TheVariants.{ReadEpoch as ReadsEpoch, Open as Opens, Pin as Pins, Load as Loads, Store as Stores, Soil as Soils, Adopt as Adopts, Put as Puts, Name as Names, Ask as Asks, See as Sees}
+use Rattle.far_events.specs.events.Step.{after}
+use Rattle.far_events.specs.state.State.{State}
 use Rattle.far_book.specs.book.Effects.{near_word}
 use Rattle.far_alone.specs.Dereference.{come, comes_to, sought}
 use Rattle.far_alone.specs.Effects.{is_slow, with_view}

@@ -6,8 +6,8 @@ use Rattle.far_word.specs.declared.pointer.PtrWord.TheVariants.{Free, Near, Far}
 use Rattle.far_word.specs.declared.sizes.TheConstants.{CELLS}
 use Rattle.far_word.specs.Bytes.{bytes_of}
 use Rattle.far_word.specs.Pointer.{read_of}
-use Rattle.far_core.specs.state.State.{State}
-use Rattle.far_core.specs.events.Step.{near_data, data_len}
+use Rattle.far_events.specs.state.State.{State}
+use Rattle.far_events.specs.events.Step.{near_data, data_len}
 
 -- the mutator uses the pointer
 abbrev pub uses : State → ℕ → ℕ → Bool

@@ -43,15 +43,22 @@ pub fn let_go<O: Objects>(worker: &mut O, number: u32)
 
 /// One block more, whose first record is `bytes`. If it can't be kept it is let go.
 pub fn push_block<O: Objects + Drop>(parts: &mut Parts<O>, bytes: &[u8]) -> Result<(), Refused>
+    // the blocks are as they should be, one more may be numbered, and the bytes are one record's
     requires placed { Placed (O.far parts.old.worker) parts.old.blocks.items parts.old.per parts.old.size }
     requires count { length parts.old.blocks.items ≤ MOST_NUMBERS }
     requires long { length bytes.now ≡ parts.old.size }
+
+    // the records' size, how many a block has, and the array's length stay
     ensures per { parts.new.per ≡ parts.old.per }
     ensures size { parts.new.size ≡ parts.old.size }
     ensures len { parts.new.len ≡ parts.old.len }
+
+    // done: there is one block more, which begins with the bytes, and no other record has changed, if the worker is honest
     ensures longer { OnOk result (length parts.new.blocks.items ≡ length parts.old.blocks.items + 1) }
     ensures count { OnOk result (length parts.new.blocks.items ≤ MOST_NUMBERS) }
     ensures wrote { OnOk result (Wrote (parts.old.per * length parts.old.blocks.items) bytes.now (O.far parts.old.worker) (O.far parts.new.worker) parts.old.blocks.items parts.new.blocks.items parts.old.per parts.old.size) }
+
+    // refused only as there is no memory for the list, or no object was made: blocks and records are the same, and no object more is there
     ensures same { OnErr result (parts.new.blocks.items ≡ parts.old.blocks.items) }
     ensures kept { OnErr result (Kept (O.far parts.old.worker) (O.far parts.new.worker) parts.old.blocks.items parts.new.blocks.items parts.old.per parts.old.size) }
     ensures none_more { OnErr result ((k : ℕ) → (O.far parts.new.worker).sizes k ≡ (O.far parts.old.worker).sizes k) }

@@ -16,16 +16,21 @@ pub fn read_rows<O: Objects + Drop>(
     n: usize,
     out: &mut [u8],
 ) -> Result<(), Refused>
+    // so many records, one or more, have their places in one block, and the buffer is just as long
     requires placed { Placed (O.far parts.old.worker) parts.old.blocks.items parts.old.per parts.old.size }
     requires within { i < parts.old.per * length parts.old.blocks.items }
     requires one { i % parts.old.per + n ≤ parts.old.per }
     requires some { 0 < n }
     requires long { length out.old ≡ n * parts.old.size }
+
+    // array and worker are as they were
     ensures blocks { parts.new.blocks ≡ parts.old.blocks }
     ensures per { parts.new.per ≡ parts.old.per }
     ensures size { parts.new.size ≡ parts.old.size }
     ensures len { parts.new.len ≡ parts.old.len }
     ensures same { O.far parts.new.worker ≡ O.far parts.old.worker }
+
+    // done: the buffer has the records one behind the other, if the worker is honest; refused only as the block's object wasn't reached
     ensures long { length out.new ≡ length out.old }
     ensures read { (O.far parts.old.worker).honest ≡ true → OnOk result ((k : ℕ) → k < n → take parts.old.size (drop (k * parts.old.size) out.new) ≡ row (O.far parts.old.worker) parts.old.blocks.items parts.old.per parts.old.size (i + k)) }
     ensures why { IfErr result (IsWhyMissed (O.unreached (O.far parts.old.worker).honest)) }
@@ -42,14 +47,19 @@ pub fn read_row<O: Objects + Drop>(
     i: usize,
     out: &mut [u8],
 ) -> Result<(), Refused>
+    // the record has its place in the blocks, and the buffer is just as long
     requires placed { Placed (O.far parts.old.worker) parts.old.blocks.items parts.old.per parts.old.size }
     requires within { i < parts.old.per * length parts.old.blocks.items }
     requires long { length out.old ≡ parts.old.size }
+
+    // array and worker are as they were
     ensures blocks { parts.new.blocks ≡ parts.old.blocks }
     ensures per { parts.new.per ≡ parts.old.per }
     ensures size { parts.new.size ≡ parts.old.size }
     ensures len { parts.new.len ≡ parts.old.len }
     ensures same { O.far parts.new.worker ≡ O.far parts.old.worker }
+
+    // done: the buffer has the record, if the worker is honest; refused only as its block's object wasn't reached
     ensures read { (O.far parts.old.worker).honest ≡ true → OnOk result (out.new ≡ row (O.far parts.old.worker) parts.old.blocks.items parts.old.per parts.old.size i) }
     ensures why { IfErr result (IsWhyMissed (O.unreached (O.far parts.old.worker).honest)) }
 {
@@ -63,16 +73,21 @@ pub fn read_front<O: Objects + Drop>(
     n: usize,
     out: &mut [u8],
 ) -> Result<(), Refused>
+    // so many records, one or more, have their places in one block, and the buffer is no shorter
     requires placed { Placed (O.far parts.old.worker) parts.old.blocks.items parts.old.per parts.old.size }
     requires within { i < parts.old.per * length parts.old.blocks.items }
     requires one { i % parts.old.per + n ≤ parts.old.per }
     requires some { 0 < n }
     requires room { n * parts.old.size ≤ length out.old }
+
+    // array and worker are as they were
     ensures blocks { parts.new.blocks ≡ parts.old.blocks }
     ensures per { parts.new.per ≡ parts.old.per }
     ensures size { parts.new.size ≡ parts.old.size }
     ensures len { parts.new.len ≡ parts.old.len }
     ensures same { O.far parts.new.worker ≡ O.far parts.old.worker }
+
+    // done: the buffer begins with the records one behind the other, if the worker is honest; refused only as the block's object wasn't reached
     ensures read { (O.far parts.old.worker).honest ≡ true → OnOk result ((k : ℕ) → k < n → take parts.old.size (drop (k * parts.old.size) out.new) ≡ row (O.far parts.old.worker) parts.old.blocks.items parts.old.per parts.old.size (i + k)) }
     ensures why { IfErr result (IsWhyMissed (O.unreached (O.far parts.old.worker).honest)) }
 {
@@ -102,14 +117,21 @@ pub fn write_row<O: Objects + Drop>(
     i: usize,
     bytes: &[u8],
 ) -> Result<(), Refused>
+    // the record has its place in the blocks, and the bytes are as long
     requires placed { Placed (O.far parts.old.worker) parts.old.blocks.items parts.old.per parts.old.size }
     requires within { i < parts.old.per * length parts.old.blocks.items }
     requires long { length bytes.now ≡ parts.old.size }
+
+    // the array's list of blocks, its sizes and its length stay
     ensures blocks { parts.new.blocks ≡ parts.old.blocks }
     ensures per { parts.new.per ≡ parts.old.per }
     ensures size { parts.new.size ≡ parts.old.size }
     ensures len { parts.new.len ≡ parts.old.len }
+
+    // done: the record has the bytes, and no other has changed, if the worker is honest
     ensures wrote { OnOk result (Wrote i bytes.now (O.far parts.old.worker) (O.far parts.new.worker) parts.old.blocks.items parts.new.blocks.items parts.old.per parts.old.size) }
+
+    // refused only as its block's object wasn't reached: nothing has changed
     ensures refused { OnErr result (O.far parts.new.worker ≡ O.far parts.old.worker) }
     ensures why { IfErr result (IsWhyMissed (O.unreached (O.far parts.old.worker).honest)) }
 {

@@ -75,14 +75,21 @@ fn set_value<T: Record + Drop, O: Objects + Drop>(
     i: usize,
     value: &T,
 ) -> Result<(), Refused>
+    // a record is as long as a value's bytes, and so is the buffer
     requires sized { held.old.rows.size ≡ T.SIZE }
     requires long { length held.old.row.items ≡ T.SIZE }
+
+    // the buffer is as long as it was, and the worker's honesty, the records' size, the number of blocks and the array's length stay
     ensures long { length held.new.row.items ≡ T.SIZE }
     ensures honest { held.new.rows.honest ≡ held.old.rows.honest }
     ensures size { held.new.rows.size ≡ held.old.rows.size }
     ensures blocks { held.new.rows.blocks ≡ held.old.rows.blocks }
     ensures len { length held.new.rows.items ≡ length held.old.rows.items }
+
+    // done, if the worker is honest: value i is this one, and no other has changed
     ensures made { held.old.rows.honest ≡ true → OnOk result (map T.decoded held.new.rows.items ≡ slice_set (map T.decoded held.old.rows.items) i value.now) }
+
+    // refused: the array has what it had; an index past the end is refused as such, and else only an object that wasn't reached
     ensures refused { OnErr result (held.new.rows ≡ held.old.rows) }
     ensures done { OnOk result (barred_at held.old.rows i T.SIZE ≡ None) }
     ensures why { IfErr result (IsWhy (barred_at held.old.rows i T.SIZE) (IsWhyMissed (O.unreached held.old.rows.honest))) }
@@ -96,14 +103,21 @@ fn push_value<T: Record + Drop, O: Objects + Drop>(
     held: &mut Held<T, O>,
     value: &T,
 ) -> Result<(), Refused>
+    // a record is as long as a value's bytes, and so is the buffer
     requires sized { held.old.rows.size ≡ T.SIZE }
     requires long { length held.old.row.items ≡ T.SIZE }
+
+    // the buffer is as long as it was, and the worker's honesty and the records' size stay
     ensures long { length held.new.row.items ≡ T.SIZE }
     ensures honest { held.new.rows.honest ≡ held.old.rows.honest }
     ensures size { held.new.rows.size ≡ held.old.rows.size }
+
+    // done: one value more behind the others, in one block more if all were full; if the worker is honest it's this one, and the others are what they were
     ensures blocks { OnOk result (held.new.rows.blocks ≡ (if has_room held.old.rows then held.old.rows.blocks else held.old.rows.blocks + 1)) }
     ensures len { OnOk result (length held.new.rows.items ≡ length held.old.rows.items + 1) }
     ensures made { held.old.rows.honest ≡ true → OnOk result (map T.decoded held.new.rows.items ≡ map T.decoded held.old.rows.items ++ value.now ∷ []) }
+
+    // refused: the array has what it had; only as the block's object wasn't reached, or, where all were full, as no block was made
     ensures refused { OnErr result (held.new.rows ≡ held.old.rows) }
     ensures why { IfErr result (IsWhyUnput (has_room held.old.rows) (O.unreached held.old.rows.honest) O.unmade) }
 {
@@ -113,14 +127,21 @@ fn push_value<T: Record + Drop, O: Objects + Drop>(
 
 // Takes the last value away.
 fn pop_value<T: Record + Drop, O: Objects + Drop>(held: &mut Held<T, O>) -> Result<T, Refused>
+    // a record is as long as a value's bytes, and so is the buffer
     requires sized { held.old.rows.size ≡ T.SIZE }
     requires long { length held.old.row.items ≡ T.SIZE }
+
+    // the buffer is as long as it was, the worker's honesty and the records' size stay, and there are no more blocks
     ensures long { length held.new.row.items ≡ T.SIZE }
     ensures honest { held.new.rows.honest ≡ held.old.rows.honest }
     ensures size { held.new.rows.size ≡ held.old.rows.size }
     ensures blocks { held.new.rows.blocks ≤ held.old.rows.blocks }
+
+    // done: the last record is out of the array, and the answer is its value, if the worker is honest
     ensures got { held.old.rows.honest ≡ true → IfOk result (λ x. x ≡ T.decoded (slice_index_or held.old.rows.items (length held.old.rows.items - 1) [])) }
     ensures made { OnOk result (held.new.rows.items ≡ take (length held.old.rows.items - 1) held.old.rows.items) }
+
+    // refused: the array has what it had; an empty array is refused as such, and else only an object that wasn't reached
     ensures refused { OnErr result (held.new.rows ≡ held.old.rows) }
     ensures done { OnOk result (barred_at held.old.rows (length held.old.rows.items - 1) T.SIZE ≡ None) }
     ensures why { IfErr result (IsWhy (barred_at held.old.rows (length held.old.rows.items - 1) T.SIZE) (IsWhyMissed (O.unreached held.old.rows.honest))) }

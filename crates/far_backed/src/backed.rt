@@ -149,6 +149,7 @@ impl Backed {
         ensures why { IfErr result (λ why. IsWhyNoAccess self.old.honest (refusal_of (object_of self.old number) from (length out.old)) why) }
         ensures fault { refusal_of (object_of self.old number) from (length out.old) ≡ None → IfErr result (λ why. IsFault why) }
         ensures given { IfErr result (IsNotGivenBy ⟦<Side as Device>⟧.reads (handle_of number).pointer (len_at self.old (handle_of number))) }
+        ensures kept { OnErr result (out.new ≡ out.old) }
     {
         let handle = named(number);
         self.worker.read(handle, from, out)

@@ -11,13 +11,13 @@ ghost use Rattle.far_word.specs.Pointer.{IsPtr, read_of, word_of};
 ghost use Rattle.far_word.specs.Sizes.{size_of};
 ghost use Rattle.far_log.specs.declared.span.Span.{Span as SpanOf};
 ghost use Rattle.far_log.specs.Walk.{IsWalk};
-ghost use Rattle.far_core.specs.declared.event.Kind.TheVariants.{Sealed};
-ghost use Rattle.far_core.specs.declared.event.Event.{Event};
-ghost use Rattle.far_core.specs.events.Legal.{IsNext, Legal};
-ghost use Rattle.far_core.specs.events.Naming.{no_marks, is_dropped};
-ghost use Rattle.far_core.specs.state.Law.{Law};
+ghost use Rattle.far_events.specs.declared.event.Kind.TheVariants.{Sealed};
+ghost use Rattle.far_events.specs.declared.event.Event.{Event};
+ghost use Rattle.far_events.specs.events.Legal.{IsNext, Legal};
+ghost use Rattle.far_events.specs.events.Naming.{no_marks, is_dropped};
+ghost use Rattle.far_events.specs.state.Law.{Law};
 ghost use Rattle.far_core.specs.state.Room.{room};
-ghost use Rattle.far_core.specs.state.Shape.{is_shape};
+ghost use Rattle.far_events.specs.state.Shape.{is_shape};
 ghost use Rattle.far_hand.specs.Finds.{Finds, body_of};
 ghost use Rattle.far_hand.specs.Came.{Came, only};
 ghost use Rattle.far_hand.specs.Known.{Forgets};
@@ -202,14 +202,23 @@ impl<N: Near + Drop, D: Device + Drop> Book<N, D> {
     /// The cell of a pointer: as it is known, if its word is given, without a look; or else as it is found.
     #[inline(always)]
     pub fn cell_of(&mut self, pointer: u16, known: Option<u64>) -> u64
+        // a pointer of the heap, and its cell's word, where that is known
         requires pointer { pointer < CELLS * (N.view self.old.near).mutators }
         requires known { IfSome known (λ word. word ≡ (N.view self.old.near).cell pointer) }
+
+        // a known word is the answer, and nothing is looked at
         ensures unseen { IfSome known (λ word. (result ≡ word) × (self.new ≡ self.old)) }
+
+        // else the word that was found: the known one, perhaps with marks more; the book knows it then, and nothing else has changed
         ensures found { Finds ((N.view self.old.near).cell pointer) result }
         ensures now { result ≡ (N.view self.new.near).cell pointer }
         ensures kept { N.view self.new.near ≡ seen (N.view self.old.near) pointer result }
+
+        // over a hand that is still it is the word that was known, and nothing has changed
         ensures exact { N.still → result ≡ (N.view self.old.near).cell pointer }
         ensures set { N.still → N.view self.new.near ≡ N.view self.old.near }
+
+        // only calls of the hand led there; the order of logs and the device stay
         ensures came { Came N.makes self.old.near self.new.near }
         ensures order { self.new.order ≡ self.old.order }
         ensures device { self.new.device ≡ self.old.device }
@@ -315,12 +324,15 @@ fn home_in(cell: u64) -> Option<Home>
 
 // Writes a header and zeros where a new object goes, and names the place by its free cell.
 fn name_blank<N: Near>(near: &mut N, pointer: u16, len: u16, ds: u8, place: Place)
+    // the pointer's cell is free, header and cell have words for such an object, and the next span may stand at the place
     requires pointer { pointer < CELLS * (N.view near.old).mutators }
     requires free { (N.view near.old).cell pointer ≡ 0 }
     requires head { IsHead record { pointer = pointer; len = len; ds = ds } }
     requires layout { IsPtr (near_at len ds place no_marks) }
     requires next { IsNext (N.view near.old) place }
     requires tail { (N.view near.old).tail place.log ≡ place.at }
+
+    // the object lies there, by its cell, and only calls of the hand led there; words may have been forgotten, but over a hand that is still
     ensures kept { N.view near.new ≡ record (placed (N.view near.old) pointer len ds place) { word = (N.view near.new).word } }
     ensures forgot { Forgets (placed (N.view near.old) pointer len ds place) (N.view near.new) }
     ensures exact { N.still → N.view near.new ≡ placed (N.view near.old) pointer len ds place }

@@ -87,19 +87,28 @@ pub fn jobs_come_and_go()
 
 /// Worked examples of jobs: lists of calls and of others' events, on a heap that nobody else steps, and what they answer.
 pub fn jobs_are_so()
+    // a copy is offered with a span of its own, and once a copier has finished it its object is named to it
     ensures copy_is_offered { CopyIsOffered }
     ensures finished_is_named { FinishedIsNamed }
+
+    // not where the object has moved meanwhile; but where it was only to be moved, or the copy's log is sealed by then
     ensures moved_isnt_named { MovedIsntNamed }
     ensures asked_is_named { AskedIsNamed }
     ensures sealed_target_is_named { SealedTargetIsNamed }
+
+    // nor where it is dropped, which leaves an offer as it is, nor where the round is over or the log has left it
     ensures dropped_isnt_named { DroppedIsntNamed }
     ensures dropped_stays_offered { DroppedStaysOffered }
     ensures old_isnt_named { OldIsntNamed }
     ensures left_isnt_named { LeftIsntNamed }
+
+    // void offers are emptied, and offers that are taken back; what a copier has stays, and what it has finished isn't taken back
     ensures void_is_empty { VoidIsEmpty }
     ensures taken_stays { TakenStays }
     ensures offered_is_taken_back { OfferedIsTakenBack }
     ensures finished_stays { FinishedStays }
+
+    // the lowest empty job comes next; without room there is no copy, and the last free log is room for one
     ensures lowest_is_next { LowestIsNext }
     ensures nowhere_to_copy { NowhereToCopy }
     ensures last_log_is_offered { LastLogIsOffered }

@@ -5,10 +5,10 @@ ghost use Rattle.std.specs.Prelude.{◌≡◌, ◌≢◌, ℕ, ◌+◌, ◌-◌,
 ghost use Rattle.std.specs.Vec.{vec_len};
 ghost use Rattle.far_word.specs.declared.sizes.TheConstants.{CELLS, LOG_WORDS, MOST_LOGS};
 ghost use Rattle.far_core.specs.laws.Observed.{live_bytes};
-ghost use Rattle.far_core.specs.state.Opening.{for_copiers, opening};
+ghost use Rattle.far_events.specs.state.Opening.{for_copiers, opening};
 ghost use Rattle.far_core.specs.state.Room.{room};
-ghost use Rattle.far_core.specs.state.Shape.{is_shape};
-ghost use Rattle.far_core.specs.state.State.{State};
+ghost use Rattle.far_events.specs.state.Shape.{is_shape};
+ghost use Rattle.far_events.specs.state.State.{State};
 ghost use Rattle.far_book.specs.book.Effects.{with_free_cell};
 ghost use Rattle.far_book.specs.book.Ledger.{Notes, KnowsLog, filled_of, is_noted_free, MayBegin, MayTakeAgain, MayTake, MayRetire, Begins, TakesAgain, Opens, Passes, Takes, Loses, Frees, IsLowestFree};
 ghost use Rattle.far_book.specs.book.NumberSet.{HasNoneLeft, IsLowestLeft, has};

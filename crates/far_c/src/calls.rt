@@ -91,6 +91,7 @@ pub extern "C" fn far_read(
     ensures done { result ≡ FAR_OK → IsSomeAnd worker.old.held.pool (λ w. refusal_of (object_of w handle) from (length out.old) ≡ None) }
     ensures barred { IfSome worker.old.held.pool (λ w. (why : Refusal) → refusal_of (object_of w handle) from (length out.old) ≡ Some why → result ≡ pos (refusal_number why)) }
     ensures why { result ≢ FAR_OK → IfSome worker.old.held.pool (λ w. IsToldBy (IsWhyNoAccess w.honest (refusal_of (object_of w handle) from (length out.old))) result) }
+    ensures kept { result ≢ FAR_OK → out.new ≡ out.old }
     ensures closed { worker.old.held.pool ≡ None → result ≡ FAR_CLOSED }
 {
     match take_out(worker, alloc) {

@@ -27,12 +27,15 @@ pub struct FarStatistics {
 
 impl FarStatistics {
     pub(crate) fn of(all: WorkerStatistics) -> FarStatistics
+        // objects, and bytes, as they lie now
         ensures near { result.near ≡ all.near }
         ensures far { result.far ≡ all.far }
         ensures live { result.live ≡ all.live }
         ensures dead { result.dead ≡ all.dead }
         ensures unused { result.unused ≡ all.unused }
         ensures far_bytes { result.far_bytes ≡ all.far_bytes }
+
+        // what was counted so far
         ensures accesses { result.accesses ≡ all.accesses }
         ensures fetches { result.fetches ≡ all.fetches }
         ensures looks { result.looks ≡ all.looks }
@@ -40,6 +43,8 @@ impl FarStatistics {
         ensures writes_spared { result.writes_spared ≡ all.writes_spared }
         ensures moves { result.moves ≡ all.moves }
         ensures rounds { result.rounds ≡ all.rounds }
+
+        // what devices failed at, and how many heaps there are
         ensures device_faults { result.device_faults ≡ all.device_faults }
         ensures heaps { result.heaps ≡ all.heaps }
     {

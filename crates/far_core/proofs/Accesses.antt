@@ -10,38 +10,38 @@ use Rattle.far_word.specs.declared.mark.Marks.{Marks}
 use Rattle.far_word.specs.declared.pointer.Place.{Place}
 use Rattle.far_word.specs.declared.pointer.PtrWord.{PtrWord}
 use Rattle.far_word.specs.declared.pointer.PtrWord.TheVariants.{Far, Free, Near}
-use Rattle.far_word.specs.declared.sizes.TheConstants.{CELLS, LOG_WORDS}
+use Rattle.far_word.specs.declared.sizes.TheConstants.{CELLS}
 use Rattle.far_word.specs.Mark.{position}
 use Rattle.far_word.specs.Bytes.{bytes_of}
 use Rattle.far_word.specs.Pointer.{IsPtr, read_of, without_owner_marks, word_of}
 use Rattle.far_word.proofs.MaskLaws.{IsPtr-without_owner_marks}
 use Rattle.far_word.proofs.PointerLaws.{read_back, read_says, word_fits}
 use Rattle.far_word.specs.Sizes.{words_for}
-use Rattle.far_core.specs.declared.event.Event.{Event}
-use Rattle.far_core.specs.declared.event.Event.TheVariants.{Ask, Close, Name, Open, Pin, ReadEpoch, Soil}
-use Rattle.far_core.specs.declared.naming.Naming.TheVariants.{Stays}
-use Rattle.far_core.specs.events.Accesses.{IsAtRest, cools, heats, hot_word, moved_word, overwrites, overwritten, with_cell, written_word}
-use Rattle.far_core.specs.events.Legal.{Legal}
-use Rattle.far_core.specs.events.Name.{after_naming}
-use Rattle.far_core.specs.events.Naming.{naming_of, unmarked}
-use Rattle.far_core.specs.events.Open.{scope_word_of}
-use Rattle.far_core.specs.events.Pin.{place_to_view, with_hold}
-use Rattle.far_core.specs.events.Ranges.{AllLegal, after_events, stores, with_row}
-use Rattle.far_core.specs.events.Step.{after, data_len, data_word, near_data, near_len, step_of}
-use Rattle.far_core.specs.events.Written.{spliced, written_words}
-use Rattle.far_core.specs.state.Law.{Law}
-use Rattle.far_core.specs.state.State.{State, addr, put}
-use Rattle.far_core.proofs.Bounds.{near_inside}
-use Rattle.far_core.proofs.Cells.{held_near, held_place-place_to_view, map_mark}
+use Rattle.far_events.specs.declared.event.Event.{Event}
+use Rattle.far_events.specs.declared.event.Event.TheVariants.{Ask, Close, Name, Open, Pin, ReadEpoch, Soil}
+use Rattle.far_events.specs.declared.naming.Naming.TheVariants.{Stays}
+use Rattle.far_events.specs.events.Accesses.{IsAtRest, cools, heats, hot_word, moved_word, overwrites, overwritten, with_cell, written_word}
+use Rattle.far_events.specs.events.Legal.{Legal}
+use Rattle.far_events.specs.events.Name.{after_naming}
+use Rattle.far_events.specs.events.Naming.{naming_of, unmarked}
+use Rattle.far_events.specs.events.Open.{scope_word_of}
+use Rattle.far_events.specs.events.Pin.{place_to_view, with_hold}
+use Rattle.far_events.specs.events.Ranges.{AllLegal, after_events, stores, with_row}
+use Rattle.far_events.specs.events.Step.{after, data_len, data_word, near_data, near_len, step_of}
+use Rattle.far_events.specs.events.Written.{spliced, written_words}
+use Rattle.far_events.specs.state.Law.{Law}
+use Rattle.far_events.specs.state.State.{State, put}
+use Rattle.far_events.proofs.Cells.{map_mark}
 use Rattle.far_core.proofs.DataBytes.{bytes_after, written_inside, written_pad}
-use Rattle.far_core.proofs.Splices.{written_fit}
+use Rattle.far_events.proofs.Splices.{written_fit}
 use Rattle.far_core.proofs.events.Ask.{reads as ask_reads}
 use Rattle.far_core.proofs.events.Soil.{reads as soil_reads}
 use Rattle.far_core.proofs.KeepOwner.{hot_read, keeps_hot, nonzero}
-use Rattle.far_core.proofs.Namings.{naming_only}
+use Rattle.far_events.proofs.Namings.{naming_only}
 use Rattle.far_core.proofs.Owing.{keeps}
-use Rattle.far_core.proofs.Put.{put_both, put_other, put_same}
+use Rattle.far_events.proofs.Put.{put_both, put_other, put_same}
 use Rattle.far_core.proofs.Ranges.{one_made, stores_end, stores_keep, stores_legal}
+use Rattle.far_events.proofs.Rests.{rest_is}
 
 -- ---- lists of events
 pub made_first : (s : State) (e : Event) (es : List Event) → Legal s e → after_events s (e ∷ es) ≡ after_events (after s e) es
@@ -296,14 +296,6 @@ module _ (s : State) (law : Law s) (m p : ℕ) (rest : IsAtRest s m p) where
       over_bytes t is = ap (λ (u : State). bytes_of (λ i. u.word (data_word s p i)) (data_len s p)) is
           ∙ subst (λ n. Spliced (near_data (read_of (s.cell p))) n) as_long (subst (λ a. Spliced a (data_len four p)) data_there four_bytes)
 
--- where a view may rest an object lies near, with its words in the heap
-pub rests_near : (s : State) → Law s → (p : ℕ) (place : Place) → place_to_view (read_of (s.cell p)) ≡ Some place →
-    (near_data (read_of (s.cell p)) ≡ addr place + 1) × (addr place + 1 + words_for (data_len s p) ≤ LOG_WORDS * s.logs)
-rests_near s law p place rests =
-    let near = held_near (read_of (s.cell p)) place (held_place-place_to_view (read_of (s.cell p)) place rests) in
-    let len : data_len s p ≡ near.len = ap near_len near.near in
-    (ap near_data near.near, omega (arith, (near_inside s law p near.len near.ds place near.marks near.near).1, len))
-
 -- ---- HOT is taken away: the owner asks, and the object stays
 module _ (s : State) (law : Law s) (m p : ℕ) (rest : IsAtRest s m p) (len ds : ℕ) (place : Place) (k : Marks) (near : read_of (s.cell p) ≡ Some (Near len ds place k))
     (loud : (k.evac || k.moved || k.dropped) ≡ false) (new : ℕ) (fits : new < 2 ^ 64) (says : read_of new ≡ Some (Near len ds place (unmarked k.dirty))) where
@@ -346,13 +338,6 @@ module _ (s : State) (law : Law s) (m p : ℕ) (rest : IsAtRest s m p) (len ds :
 
   pub cools_keep : Law (with_cell s p new)
   cools_keep = subst Law named (keeps asked (Name p (moved_word (s.cell p)) new) (keeps s (Ask m p Moved) law tt legal_ask) ((ask_reads s law p rest.used unheld_now Moved refl).1, fits) legal_name)
-
--- what a cell says where a view may rest
-pub rest_is : (o : Option PtrWord) (place : Place) → place_to_view o ≡ Some place → (len ds : ℕ) × (k : Marks) × (o ≡ Some (Near len ds place k)) × ((k.evac || k.moved || k.dropped) ≡ false)
-rest_is None place e = absurd cc
-rest_is (Some Free) place e = absurd cc
-rest_is (Some (Near len ds at k)) place e = (len, ds, k, (let same : at ≡ place = grind (arith, nat_tests) in ap (λ x. Some (Near len ds x k)) same), grind (arith, nat_tests))
-rest_is (Some (Far len ds k)) place e = absurd cc
 
 -- a word without its owner's marks is that of the object unmarked
 module _ (s : State) (law : Law s) (m p : ℕ) (rest : IsAtRest s m p) (place : Place) (rests : place_to_view (read_of (s.cell p)) ≡ Some place) (t : State)

@@ -1,37 +1,19 @@
 -- The law at the start.
-use Rattle.std.proofs.Common.{◌≡◌, ◌≢◌, ℕ, ◌<◌, ◌≤◌, Bool, true, false, cond, Some, refl, arith, sym, ap, ◌∙◌, List, get_or, inl, inr, zero}
-use Rattle.std.specs.Prelude.{replicate, nat_lt}
-use Rattle.std.proofs.lemmas.Bool.{cond_both, false≢true, cases_lt}
-use Rattle.std.proofs.lemmas.Bool.Decides.{nat_tests}
-use Rattle.std.proofs.lemmas.List.{get_or-replicate, get_or_past, length-replicate}
+use Rattle.std.proofs.Common.{◌≡◌, ◌≢◌, ◌<◌, Bool, true, false, Some, refl, arith, sym, ◌∙◌}
+use Rattle.std.proofs.lemmas.Bool.{false≢true}
 use Rattle.far_word.specs.declared.pointer.PtrWord.TheVariants as pointer
 use Rattle.far_word.specs.declared.pointer.PtrWord.TheVariants.{Near, Far}
 use Rattle.far_word.specs.declared.scope.ScopeWord.TheVariants as scoped
-use Rattle.far_word.specs.declared.sizes.TheConstants.{EPOCH_END, LEAST_LOGS, LEAST_MUTATORS, MOST_LOGS, MOST_MUTATORS}
-use Rattle.far_core.specs.declared.event.Kind.TheVariants.{Free, Open}
-use Rattle.far_core.specs.declared.shape.Shape.{Shape}
-use Rattle.far_core.specs.state.Law.{Law}
-use Rattle.far_core.specs.state.Opening.{for_copiers, opening}
-use Rattle.far_core.specs.state.Shape.{is_shape}
-use Rattle.far_core.proofs.Cells.{unused}
+use Rattle.far_events.specs.declared.event.Kind.TheVariants.{Free, Open}
+use Rattle.far_events.specs.declared.shape.Shape.{Shape}
+use Rattle.far_events.specs.state.Law.{Law}
+use Rattle.far_events.specs.state.Opening.{for_copiers, opening}
+use Rattle.far_events.specs.state.Shape.{is_shape}
+use Rattle.far_events.proofs.Cells.{unused}
 use Rattle.far_core.proofs.KeepOwner.{closed_word}
 use Rattle.far_core.proofs.KeepJobs.{no_copies}
-use Rattle.far_core.proofs.Put.{put_both}
-
--- a row of one value has it everywhere
-pub row_of : {X : Type 0} (xs : List X) (n : ℕ) (d : X) → xs ≡ replicate n d → (q : ℕ) → get_or xs q d ≡ d
-row_of xs n d e q = ap (λ ys. get_or ys q d) e ∙ elim (cases_lt q n) [ inl lt ↦ get_or-replicate n q d d lt | inr le ↦ get_or_past (replicate n d) q d (omega (arith, length-replicate n d)) ]
-
--- what the test of a shape says
-pub record InRange (shape : Shape) : Type 0 where
-  pub two_logs : LEAST_LOGS ≤ shape.logs
-  pub few_logs : shape.logs ≤ MOST_LOGS
-  pub some_mutators : LEAST_MUTATORS ≤ shape.mutators
-  pub few_mutators : shape.mutators ≤ MOST_MUTATORS
-  pub epoch : shape.epoch < EPOCH_END
-
-pub in_range : (shape : Shape) → is_shape shape ≡ true → InRange shape
-in_range shape h = record { two_logs = grind (arith, nat_tests); few_logs = grind (arith, nat_tests); some_mutators = grind (arith, nat_tests); few_mutators = grind (arith, nat_tests); epoch = grind (arith, nat_tests) }
+use Rattle.far_events.proofs.Put.{put_both}
+use Rattle.far_events.proofs.Begins.{in_range}
 
 pub begins : (has : Bool) (shape : Shape) (honest : Bool) → is_shape shape ≡ true → Law (for_copiers has (opening shape honest))
 begins has shape honest fits = let range = in_range shape fits in record {
@@ -83,11 +65,3 @@ begins has shape honest fits = let range = in_range shape fits in record {
     same = λ _ len ds place m e. let f : Some pointer.Free ≡ Some (Near len ds place m) = sym unused ∙ e in absurd cc;
   };
 }
-
-same : (b : Bool) → cond b zero zero ≡ zero
-same true = refl
-same false = refl
-
--- the same of rows of other values
-pub masked_row : {X : Type 0} (j n : ℕ) (d x : X) → x ≡ d → cond (nat_lt j n) x d ≡ d
-masked_row j n d x e = cond_both (nat_lt j n) x d (λ y. y ≡ d) (λ _. e) (λ _. refl)

@@ -6,17 +6,17 @@ use Rattle.far_word.specs.Bytes.{bytes_of}
 use Rattle.far_word.specs.Pointer.{read_of}
 use Rattle.far_word.specs.Sizes.{words_for}
 use Rattle.far_word.specs.declared.pointer.Place.{Place}
-use Rattle.far_core.specs.events.Ranges.{with_row}
-use Rattle.far_core.specs.events.Step.{data_len, data_word, near_data, near_len}
-use Rattle.far_core.specs.state.Law.{Law, head_len}
-use Rattle.far_core.specs.state.State.{State, addr}
-use Rattle.far_core.specs.state.Words.{with_bytes}
-use Rattle.far_core.specs.events.Written.{spliced, written_words}
-use Rattle.far_core.proofs.Bounds.{span_len}
-use Rattle.far_core.proofs.Calls.{word_behind}
-use Rattle.far_core.proofs.Cells.{held_near}
+use Rattle.far_events.specs.events.Ranges.{with_row}
+use Rattle.far_events.specs.events.Step.{data_len, data_word, near_data, near_len}
+use Rattle.far_events.specs.state.Law.{Law, head_len}
+use Rattle.far_events.specs.state.State.{State, addr}
+use Rattle.far_events.specs.state.Words.{with_bytes}
+use Rattle.far_events.specs.events.Written.{spliced, written_words}
+use Rattle.far_events.proofs.Bounds.{span_len}
+use Rattle.far_events.proofs.Calls.{word_behind}
+use Rattle.far_events.proofs.Cells.{held_near}
 use Rattle.far_core.proofs.Ranges.{stored_beside}
-use Rattle.far_core.proofs.Splices.{written_bytes, written_get, written_long, written_padded, written_row}
+use Rattle.far_events.proofs.Splices.{written_bytes, written_get, written_long, written_padded, written_row}
 
 some_place : (o : Option Place) → IsSome o → (place : Place) × (o ≡ Some place)
 some_place None h = absurd (false≢true h)

@@ -7,12 +7,13 @@ use Rattle.far_word.specs.declared.pointer.Place.{Place}
 use Rattle.far_word.specs.declared.pointer.PtrWord.TheVariants.{Near, Far}
 use Rattle.far_word.specs.declared.sizes.TheConstants.{CELLS}
 use Rattle.far_word.specs.Pointer.{read_of}
-use Rattle.far_core.specs.state.Law.{Law, ScopeLaw, ViewLaw, RoundLaw, ClearLaw, BlankLaw, SoilLaw, HasEvac, NamesBack, StoresBack, IsBlank, IsClean, held_place, in_use, is_dirty}
-use Rattle.far_core.specs.declared.event.Kind.{Kind}
-use Rattle.far_core.specs.state.State.{State, put}
-use Rattle.far_core.proofs.Cells.{Remarked, body, is_dropped, is_some-remarked, near_of, far_of}
+use Rattle.far_events.specs.state.Law.{Law, ScopeLaw, ViewLaw, RoundLaw, ClearLaw, BlankLaw, SoilLaw, HasEvac, NamesBack, StoresBack, IsBlank, IsClean, held_place, in_use, is_dirty}
+use Rattle.far_events.specs.declared.event.Kind.{Kind}
+use Rattle.far_events.specs.state.State.{State, put}
+use Rattle.far_events.proofs.Cells.{Remarked, body, is_some-remarked, near_of, far_of}
+use Rattle.far_events.specs.events.Naming.{is_dropped}
 use Rattle.far_core.proofs.KeepJobs.{copies_fewer, copies_remarked}
-use Rattle.far_core.proofs.Put.{put_both}
+use Rattle.far_events.proofs.Put.{put_both}
 
 -- scopes and owners' views
 pub law_with_owners : (s : State) (scope : ℕ → ℕ) (remembered : ℕ → Option ℕ) (used : ℕ → Bool) (held : ℕ → Option Place) (soiled : ℕ → Bool) → Law s →

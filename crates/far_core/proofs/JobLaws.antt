@@ -8,13 +8,13 @@ use Rattle.far_word.specs.declared.pointer.PtrWord.TheVariants.{Free, Near, Far}
 use Rattle.far_word.specs.declared.sizes.TheConstants.{LAST_AT, LOG_WORDS}
 use Rattle.far_word.specs.Job.{job_of}
 use Rattle.far_word.specs.Pointer.{read_of}
-use Rattle.far_core.specs.declared.event.Kind.TheVariants as kinds
-use Rattle.far_core.specs.declared.event.Task.{Task}
+use Rattle.far_events.specs.declared.event.Kind.TheVariants as kinds
+use Rattle.far_events.specs.declared.event.Task.{Task}
 use Rattle.far_core.specs.laws.Jobs.{JobsStand}
-use Rattle.far_core.specs.state.Jobs.{job_at, near_place}
-use Rattle.far_core.specs.state.Law.{Law}
-use Rattle.far_core.specs.state.State.{State, addr}
-use Rattle.far_core.proofs.JobPlaces.{job_bounds, not_target}
+use Rattle.far_events.specs.state.Jobs.{job_at, near_place}
+use Rattle.far_events.specs.state.Law.{Law}
+use Rattle.far_events.specs.state.State.{State, addr}
+use Rattle.far_events.proofs.JobPlaces.{job_bounds, not_target}
 
 -- a log in which a span begins isn't free
 in_use : (s : State) → Law s → (place : Place) → place.at ≤ LAST_AT → s.starts (addr place) ≡ true → s.kind place.log ≢ kinds.Free

@@ -12,19 +12,15 @@ use Rattle.far_word.specs.declared.pointer.PtrWord.TheVariants.{Free, Near, Far}
 use Rattle.far_word.specs.Header.{head_of}
 use Rattle.far_word.specs.Job.{job_of}
 use Rattle.far_word.specs.Pointer.{read_of}
-use Rattle.far_core.specs.declared.event.Task.{Task}
-use Rattle.far_core.specs.state.Jobs.{is_finished, job_at, job_said, near_place, IsGood, job_words, source, target, JobLaw, TakenLaw, AimLaw, GoodLaw, SameAs, CopyLaw}
-use Rattle.far_core.specs.state.Law.{Law}
-use Rattle.far_core.specs.state.Opening.{no_copying}
+use Rattle.far_events.specs.declared.event.Task.{Task}
+use Rattle.far_events.specs.state.Jobs.{is_finished, job_at, job_said, near_place, IsGood, job_words, source, target, JobLaw, TakenLaw, AimLaw, GoodLaw, SameAs, CopyLaw}
+use Rattle.far_events.specs.state.Law.{Law}
+use Rattle.far_events.specs.state.Opening.{no_copying}
 use Rattle.far_core.specs.world.WorldOf.{world_of}
-use Rattle.far_core.specs.state.State.{Copying, State, addr, put}
-use Rattle.far_core.proofs.Cells.{Body, NoBody, FreeBody, NearBody, FarBody, Remarked, body}
-use Rattle.far_core.proofs.Put.{put_both}
-
--- ---- the places of jobs
--- the job of a copier is one of the jobs
-pub task_at : (word : ℕ → ℕ) (k : Copying) → TakenLaw word k.word k.task k.length k.read → (c : ℕ) (t : Task) → k.task c ≡ Some t → job_at k.word t.number ≡ Some t.job
-task_at word k law c t e = rw (law.takes c t e) refl
+use Rattle.far_events.specs.state.State.{Copying, State, addr, put}
+use Rattle.far_events.proofs.Cells.{Body, NoBody, FreeBody, NearBody, FarBody, Remarked, body}
+use Rattle.far_events.proofs.Put.{put_both}
+use Rattle.far_events.proofs.JobPlaces.{task_at, unworded}
 
 module _ (word : ℕ → ℕ) (starts : ℕ → Bool) (new : ℕ → ℕ) (begun : ℕ → Bool) (k : Copying) (law : JobLaw word starts k.word k.named)
     (stands : (j : ℕ) (job : Job) → job_at k.word j ≡ Some job →
@@ -218,10 +214,6 @@ module _ (jobs : ℕ → ℕ) (j w : ℕ) (same : job_said (job_of w) ≡ job_at
   reworded_good epoch round clear since law =
       record { begun = law.begun; seen = λ i job e. law.seen i job (same_jobs i job e); outside = λ i job e. law.outside i job (same_jobs i job e) }
 
-pub unworded : job_of 0 ≡ Some Empty
-unfolding job_of
-unworded = refl
-
 -- ---- what is copied changes alone
 pub law_with_copying : (s : State) (k : Copying) → Law s → CopyLaw s.cell s.word s.starts s.round s.round_epoch s.clear k → Law record s { copying = k }
 law_with_copying s k law copies = record {
@@ -242,10 +234,6 @@ law_with_copying s k law copies = record {
 pub copying_stays : (s : State) (k : Copying) → world_of record s { copying = k } ≡ world_of s
 unfolding world_of
 copying_stays s k = refl
-
--- a word that says a job is one of the jobs
-pub job_low : (word : ℕ → ℕ) (starts : ℕ → Bool) (jobs : ℕ → ℕ) (named : ℕ → Bool) → JobLaw word starts jobs named → (j : ℕ) (job : Job) → job_at jobs j ≡ Some job → j < JOBS
-job_low word starts jobs named law j job e = law.job_range j (λ z. let odd : None ≡ Some job = sym (ap job_said unworded) ∙ sym (ap (λ w. job_said (job_of w)) z) ∙ e in cc)
 
 -- ---- no jobs
 pub no_job : (j : ℕ) (job : Job) → job_at no_copying.word j ≢ Some job

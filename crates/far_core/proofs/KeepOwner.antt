@@ -1,11 +1,11 @@
 -- Each event of an owner keeps the law.
 use Rattle.std.proofs.Common.{Option, Some, ap, bit_or, refl, subst, sym, true, ℕ, ◌^◌, ◌∙◌, ◌≡◌, ◌≢◌}
 use Rattle.std.proofs.lemmas.Bool.{false≢true}
-use Rattle.far_core.proofs.Cells.{Remarked, Remarked-map_mark, HasEvac-mark, unused, map_mark, read_hot, held_place-mark, in_use-mark}
+use Rattle.far_events.proofs.Cells.{Remarked, Remarked-map_mark, HasEvac-mark, unused, map_mark, read_hot, held_place-mark, in_use-mark}
 use Rattle.far_core.proofs.Frames.{law_with_cell_marks}
-use Rattle.far_core.proofs.Put.{put_both}
-use Rattle.far_core.specs.state.Law.{Law, HasEvac, held_place, in_use}
-use Rattle.far_core.specs.state.State.{State, put}
+use Rattle.far_events.proofs.Put.{put_both}
+use Rattle.far_events.specs.state.Law.{Law, HasEvac, held_place, in_use}
+use Rattle.far_events.specs.state.State.{State, put}
 use Rattle.far_word.specs.Mark.{position}
 use Rattle.far_word.specs.Pointer.{read_of}
 use Rattle.far_word.specs.Scope.{scope_of}

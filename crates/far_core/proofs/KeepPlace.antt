@@ -11,14 +11,15 @@ use Rattle.far_word.specs.declared.sizes.TheConstants.{CELLS, LOG_WORDS, LONGEST
 use Rattle.far_word.specs.Header.{head_of, head_word}
 use Rattle.far_word.specs.Pointer.{read_of}
 use Rattle.far_word.specs.Sizes.{size_of}
-use Rattle.far_core.specs.declared.event.Kind.TheVariants.{Free, Open, Sealed}
-use Rattle.far_core.specs.state.Law.{Heads, Law, SpanAt, Padded, HasEvac, NamesBack, StoresBack, IsBlank, IsClean, Blank, held_place, in_use, head_len, is_dirty}
-use Rattle.far_core.specs.state.State.{Copying, State, put, addr}
-use Rattle.far_core.specs.events.NewSpans.{with_begun, with_span}
-use Rattle.far_core.specs.state.Jobs.{near_place, CopyLaw}
-use Rattle.far_core.proofs.Cells.{Heads-same}
+use Rattle.far_events.specs.declared.event.Kind.TheVariants.{Free, Open, Sealed}
+use Rattle.far_events.specs.state.Law.{Heads, Law, SpanAt, Padded, HasEvac, NamesBack, StoresBack, IsBlank, IsClean, Blank, held_place, in_use, head_len, is_dirty}
+use Rattle.far_events.specs.state.State.{Copying, State, put, addr}
+use Rattle.far_events.specs.events.NewSpans.{with_begun, with_span}
+use Rattle.far_events.specs.state.Jobs.{near_place, CopyLaw}
+use Rattle.far_events.proofs.Cells.{Heads-same}
 use Rattle.far_core.proofs.KeepJobs.{copies_with_begun, copies_with_span}
-use Rattle.far_core.proofs.Put.{put_both, put_same, put_other}
+use Rattle.far_events.proofs.Put.{put_both, put_same, put_other}
+use Rattle.far_events.proofs.Bounds.{header}
 
 -- ---- the spans with one more at the tail of its log
 module _ (s : State) (law : Law s) (len : ℕ) (place : Place)
@@ -79,10 +80,6 @@ module _ (s : State) (law : Law s) (len : ℕ) (place : Place)
 -- with more spans begun, each pointer is named back as it was
 NamesBack-more : (word : ℕ → ℕ) (old new : ℕ → Bool) → ((a : ℕ) → old a ≡ true → new a ≡ true) → (p : ℕ) (o : Option PtrWord) → NamesBack word old p o → NamesBack word new p o
 NamesBack-more word old new more p o h = λ len ds place m e. record { placed = more _ (h len ds place m e).placed; head = (h len ds place m e).head }
-
--- a header that is written stands for its pointer
-abbrev pub header : ℕ → ℕ → ℕ → HeadWord
-header p len ds = record { pointer = p; len = len; ds = ds }
 
 -- ---- a span is begun, and no pointer names it
 module _ (s : State) (law : Law s) (p len ds : ℕ) (place : Place) (cell : p < CELLS * s.mutators)

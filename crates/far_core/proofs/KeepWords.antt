@@ -4,11 +4,11 @@ use Rattle.far_word.specs.declared.pointer.PtrWord.{PtrWord}
 use Rattle.far_word.specs.declared.sizes.TheConstants.{LOG_WORDS}
 use Rattle.far_word.specs.Header.{head_of}
 use Rattle.far_word.specs.Sizes.{words_for}
-use Rattle.far_core.specs.state.Law.{Law, SpanAt, Padded, NamesBack, BlankLaw, CleanLaw, head_len}
-use Rattle.far_core.specs.state.Jobs.{SameAs}
-use Rattle.far_core.specs.state.State.{State, put}
+use Rattle.far_events.specs.state.Law.{Law, SpanAt, Padded, NamesBack, BlankLaw, CleanLaw, head_len}
+use Rattle.far_events.specs.state.Jobs.{SameAs}
+use Rattle.far_events.specs.state.State.{State, put}
 use Rattle.far_core.proofs.KeepJobs.{copies_with_words, keeps_same, task_unnamed}
-use Rattle.far_core.proofs.Put.{put_both, put_other}
+use Rattle.far_events.proofs.Put.{put_both, put_other}
 use Rattle.far_core.proofs.SpanFrames.{spans_apart, past_tail}
 
 module _ (word : ℕ → ℕ) (starts : ℕ → Bool) (new : ℕ → ℕ) (same : (a : ℕ) → starts a ≡ true → new a ≡ word a) where

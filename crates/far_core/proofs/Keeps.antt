@@ -1,12 +1,12 @@
 -- Each legal event keeps the law.
 use Rattle.std.proofs.lemmas.Bool.{cond_both}
 use Rattle.far_core.proofs.Owing.{is_fact}
-use Rattle.far_core.specs.state.Law.{Law}
-use Rattle.far_core.specs.state.State.{State}
-use Rattle.far_core.specs.events.Step.{Fits, is_legal, step_of}
-use Rattle.far_core.specs.declared.event.Event.{Event}
-use Rattle.far_core.specs.declared.event.Reply.{Reply}
-pub use Rattle.far_core.proofs.Bounds.{one_name}
+use Rattle.far_events.specs.state.Law.{Law}
+use Rattle.far_events.specs.state.State.{State}
+use Rattle.far_events.specs.events.Step.{Fits, is_legal, step_of}
+use Rattle.far_events.specs.declared.event.Event.{Event}
+use Rattle.far_events.specs.declared.event.Reply.{Reply}
+pub use Rattle.far_events.proofs.Bounds.{one_name}
 pub use Rattle.far_core.proofs.Owing.{keeps, is_fact}
 
 -- so does every step

@@ -1,7 +1,7 @@
 -- What an event other than a naming does to what is stored: nothing. And a naming that sends nothing far.
-use Rattle.std.proofs.Common.{◌≡◌, ◌≢◌, ◌<◌, ℕ, Bool, List, length, true, false, cond, Option, Some, None, refl, sym, ap, subst, ◌∙◌, inl, inr}
+use Rattle.std.proofs.Common.{◌≡◌, ◌≢◌, ◌<◌, ℕ, Bool, List, length, true, false, cond, Option, Some, None, refl, sym, ap, subst, ◌∙◌}
 use Rattle.std.specs.Prelude.{◌*◌, ◌||◌, not}
-use Rattle.std.proofs.lemmas.Bool.{cond_both, eq-eqb, false≢true}
+use Rattle.std.proofs.lemmas.Bool.{cond_both, false≢true}
 use Rattle.std.proofs.lemmas.List.Folds.{list_all_at}
 use Rattle.std.proofs.Math.ListN.{get_or}
 use Rattle.std.specs.List.{list_all}
@@ -11,26 +11,25 @@ use Rattle.far_word.specs.declared.pointer.Place.{Place}
 use Rattle.far_word.specs.declared.pointer.PtrWord.{PtrWord}
 use Rattle.far_word.specs.declared.pointer.PtrWord.TheVariants.{Free, Near, Far}
 use Rattle.far_word.specs.Pointer.{read_of}
-use Rattle.far_core.specs.declared.event.Event.{Event}
-use Rattle.far_core.specs.declared.event.Event.TheVariants.{ReadEpoch, Open, Pin, Load, Store, Soil, Close, Adopt, Put, Name, See, Mark, Ask, Get, Clear, Advance, Look, Offer, PeekJob, SeeJob, Claim, ReadLength, Read, Write, Finish, Collect}
-use Rattle.far_core.specs.declared.event.Reply.{Reply}
-use Rattle.far_core.specs.declared.event.Task.{Task}
+use Rattle.far_events.specs.declared.event.Event.{Event}
+use Rattle.far_events.specs.declared.event.Event.TheVariants.{ReadEpoch, Open, Pin, Load, Store, Soil, Close, Adopt, Put, Name, See, Mark, Ask, Get, Clear, Advance, Look, Offer, PeekJob, SeeJob, Claim, ReadLength, Read, Write, Finish, Collect}
+use Rattle.far_events.specs.declared.event.Reply.{Reply}
+use Rattle.far_events.specs.declared.event.Task.{Task}
 use Rattle.far_core.specs.declared.machine.Core.{Core}
 use Rattle.far_word.specs.declared.sizes.TheConstants.{CELLS}
-use Rattle.far_core.specs.declared.memory.stored_rows.StoredRows.{StoredRows}
-use Rattle.far_core.specs.events.Claim.{after_claim}
-use Rattle.far_core.specs.events.Finish.{after_finish}
-use Rattle.far_core.specs.events.Get.{after_get}
-use Rattle.far_core.specs.events.Name.{after_naming}
-use Rattle.far_core.specs.events.Naming.{naming_of}
-use Rattle.far_core.specs.events.Next.{next_state}
-use Rattle.far_core.specs.events.Offer.{after_offer}
-use Rattle.far_core.specs.events.Step.{after, is_legal, step_of}
-use Rattle.far_core.specs.state.Kept.{is_naming, keeps_stored, tells, tells_all}
-use Rattle.far_core.specs.state.State.{State}
-use Rattle.far_core.specs.state.Stored.{RowsAre}
-use Rattle.far_core.proofs.MadeNamings.{ComesNear}
+use Rattle.far_events.specs.declared.memory.stored_rows.StoredRows.{StoredRows}
+use Rattle.far_events.specs.events.Claim.{after_claim}
+use Rattle.far_events.specs.events.Finish.{after_finish}
+use Rattle.far_events.specs.events.Get.{after_get}
+use Rattle.far_events.specs.events.Next.{next_state}
+use Rattle.far_events.specs.events.Offer.{after_offer}
+use Rattle.far_events.specs.events.Step.{after, is_legal, step_of}
+use Rattle.far_events.specs.events.Name.{is_naming}
+use Rattle.far_core.specs.state.Kept.{keeps_stored, tells, tells_all}
+use Rattle.far_events.specs.state.State.{State}
+use Rattle.far_events.specs.state.Stored.{RowsAre}
 use Rattle.far_core.proofs.Owing.{owed}
+use Rattle.far_events.proofs.Kept.{rows_stay}
 
 either : (s t u : State) (b : Bool) → t.stored ≡ s.stored → u.stored ≡ s.stored → (cond b t u).stored ≡ s.stored
 either s t u true e f = e
@@ -86,21 +85,6 @@ pub next_stored : (s : State) (e : Event) → is_naming e ≡ false → (next_st
 unfolding next_state
 next_stored s e h = not_naming s e h
 
-pub name_won : (s : State) (p old new : ℕ) → s.cell p ≡ old → next_state s (Name p old new) ≡ after_naming s p new (naming_of (read_of old) (read_of new))
-unfolding next_state
-name_won s p old new e = ap (λ (b : Bool). cond b (after_naming s p new (naming_of (read_of old) (read_of new))) s) (eq-eqb (s.cell p) old e)
-
--- what comes near stores nothing
-pub near_stored : (s t : State) (p new : ℕ) (place : Place) → ComesNear s p new place t → t.stored ≡ s.stored
-near_stored s t p new place came = elim came.where_to [
-  | inl takes ↦ ap (λ (u : State). u.stored) takes.after
-  | inr (inl stays) ↦ ap (λ (u : State). u.stored) stays.after
-  | inr (inr named) ↦ ap (λ (u : State). u.stored) named.after
-]
-
-pub rows_stay : (n : ℕ) (f g : ℕ → ℕ → ℕ) (rows : StoredRows) → g ≡ f → RowsAre n f rows → RowsAre n g rows
-rows_stay n f g rows e are = subst (λ h. RowsAre n h rows) (sym e) are
-
 -- no event changes how many owners there are
 pub next_mutators : (s : State) (e : Event) → (next_state s e).mutators ≡ s.mutators
 unfolding next_state
@@ -126,18 +110,10 @@ rows_stepped o s t r e is other are =
     let both = step_stored s e other in
     rows_same o s t (ap (λ (x : State × Reply). x.0.stored) is ∙ both.0) (ap (λ (x : State × Reply). x.0.mutators) is ∙ both.1) are
 
--- and those of an object that a naming sends far were stored
-abbrev some_of : StoredRows → Option StoredRows → StoredRows
-some_of d None = d
-some_of d (Some x) = x
-
 pub rows_named : (o : Option StoredRows) (s t : State) (e : Event) → t ≡ next_state s e → ForSome o (λ rows. RowsAre (CELLS * s.mutators) (next_state s e).stored rows) → ForSome o (λ rows. AreOf t rows)
 rows_named o s t e is are =
     let n : t.mutators ≡ s.mutators = ap (λ (u : State). u.mutators) is ∙ next_mutators s e in
     λ rows same. subst (λ (m : ℕ). RowsAre (CELLS * m) t.stored rows) (sym n) (rows_stay (CELLS * s.mutators) (next_state s e).stored t.stored rows (ap (λ (u : State). u.stored) is) (are rows same))
-
-pub some_is : (P : StoredRows → Type 0) (rows : StoredRows) → P rows → ForSome (Some rows) P
-some_is P rows are = λ x same. subst P (ap (some_of rows) same) are
 
 -- ---- of which events a core tells
 or_true : (b : Bool) → (b || true) ≡ true

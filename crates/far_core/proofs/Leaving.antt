@@ -2,14 +2,14 @@
 use Rattle.std.proofs.Common.{◌≢◌, ◌≡◌, ℕ, ◌/◌, refl, subst}
 use Rattle.std.proofs.lemmas.Bool.{cond_both}
 use Rattle.far_word.specs.declared.sizes.TheConstants.{CELLS}
-use Rattle.far_core.specs.declared.event.Event.{Event}
-use Rattle.far_core.specs.declared.event.Event.TheVariants.{Pin, Close}
-use Rattle.far_core.specs.declared.event.Reply.{Reply}
-use Rattle.far_core.specs.declared.event.Reply.TheVariants.{Refused}
-use Rattle.far_core.specs.events.Leaves.{PartBy, EventsLeave}
-use Rattle.far_core.specs.state.State.{State}
-use Rattle.far_core.specs.events.Step.{after, answer, is_legal, step_of, touches}
-use Rattle.far_core.specs.events.Touch.{Touches}
+use Rattle.far_events.specs.declared.event.Event.{Event}
+use Rattle.far_events.specs.declared.event.Event.TheVariants.{Pin, Close}
+use Rattle.far_events.specs.declared.event.Reply.{Reply}
+use Rattle.far_events.specs.declared.event.Reply.TheVariants.{Refused}
+use Rattle.far_core.specs.laws.Leaves.{PartBy, EventsLeave}
+use Rattle.far_events.specs.state.State.{State}
+use Rattle.far_events.specs.events.Step.{after, answer, is_legal, step_of, touches}
+use Rattle.far_events.specs.events.Touch.{Touches}
 use Rattle.far_core.proofs.Owing.{owed}
 use Rattle.far_core.proofs.Touching.{untouched}
 

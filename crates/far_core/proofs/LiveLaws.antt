@@ -8,8 +8,8 @@ use Rattle.far_word.specs.Pointer.{read_of}
 use Rattle.far_log.specs.declared.span.Span.{Span}
 use Rattle.far_log.proofs.SpanLaws.{taken_is}
 use Rattle.far_core.specs.laws.Live.{place_in, LiveIs, LiveBytesAre}
-use Rattle.far_core.specs.state.Spans.{spans_of, is_live}
-use Rattle.far_core.specs.state.State.{State}
+use Rattle.far_events.specs.state.Spans.{spans_of, is_live}
+use Rattle.far_events.specs.state.State.{State}
 use Rattle.far_core.proofs.Observations.{live_names}
 
 pub live_is : (s : State) (l : ℕ) (span : Span) → LiveIs s l span

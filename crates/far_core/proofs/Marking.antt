@@ -10,13 +10,13 @@ use Rattle.far_word.specs.declared.pointer.PtrWord.TheVariants.{Free, Near, Far}
 use Rattle.far_word.specs.Mark.{position}
 use Rattle.far_word.specs.Pointer.{read_of, takes_mark}
 use Rattle.far_word.proofs.PointerLaws.{with_mark_read, with_mark_fits}
-use Rattle.far_core.specs.state.Law.{in_use}
-use Rattle.far_core.specs.state.State.{State, put}
+use Rattle.far_events.specs.state.Law.{in_use}
+use Rattle.far_events.specs.state.State.{State, put}
 use Rattle.far_core.specs.world.World.{Object}
 use Rattle.far_core.specs.world.WorldOf.{world_of, object_of, is_marked}
 use Rattle.far_core.specs.world.Steps as world
-use Rattle.far_core.proofs.Cells.{map_mark, unused}
-use Rattle.far_core.proofs.Put.{put_both}
+use Rattle.far_events.proofs.Cells.{map_mark}
+use Rattle.far_events.proofs.Put.{put_both}
 use Rattle.far_core.proofs.Worlds.{World-ext}
 
 -- the marks that an owner sets
@@ -49,10 +49,6 @@ at_mark k w (Some v) h fits e u = (with_mark_read k w v fits e (takes_owners k v
 pub read_mark : (k : Mark) (w : ℕ) → is_owners k ≡ true → w < 2 ^ 64 → in_use (read_of w) ≡ true →
     (read_of (bit_or w (2 ^ position k)) ≡ map_mark k (read_of w)) × (bit_or w (2 ^ position k) < 2 ^ 64)
 read_mark k w h fits u = at_mark k w (read_of w) h fits refl u
-
--- a cell in use isn't 0
-pub in_use_nonzero : (w : ℕ) → in_use (read_of w) ≡ true → w ≢ 0
-in_use_nonzero w u z = false≢true (sym (ap in_use (ap read_of z ∙ unused)) ∙ u)
 
 at_moved : (d e v : Bool) (x : Object) → (not d && (e || true)) ≡ (is_some (cond d None (Some x)) || (not d && (e || v)))
 at_moved true e v x = refl

@@ -9,11 +9,11 @@ use Rattle.far_word.specs.declared.pointer.PtrWord.TheVariants.{Free, Near, Far}
 use Rattle.far_word.specs.Mark.{field, bit_of, marks_number}
 use Rattle.far_word.specs.Pointer.{read_of}
 use Rattle.far_word.proofs.PointerLaws.{far_fields, marks_small, near_fields, read_says}
-use Rattle.far_core.specs.declared.naming.Naming.{Naming}
-use Rattle.far_core.specs.declared.naming.Naming.TheVariants.{Places, Retires, Evicts, Stays, Moves, Fetches}
-use Rattle.far_core.specs.events.Naming.{IsNaming, is_dropped, no_marks, unmarked}
+use Rattle.far_events.specs.declared.naming.Naming.{Naming}
+use Rattle.far_events.specs.declared.naming.Naming.TheVariants.{Places, Retires, Evicts, Stays, Moves, Fetches}
+use Rattle.far_events.specs.events.Naming.{IsNaming, is_dropped, no_marks, unmarked}
 use Rattle.far_core.specs.laws.Namings.{IsPlain, NamingsArePlain}
-use Rattle.far_core.specs.state.Law.{in_use}
+use Rattle.far_events.specs.state.Law.{in_use}
 
 bit_small : (b : Bool) → bit_of b < 2
 bit_small true = omega arith

@@ -2,13 +2,13 @@
 use Rattle.std.proofs.Common.{◌≡◌, ℕ, ◌*◌, ◌<◌, ◌^◌, true, Some}
 use Rattle.far_word.specs.declared.sizes.TheConstants.{CELLS}
 use Rattle.far_word.specs.Pointer.{read_of}
-use Rattle.far_core.specs.declared.event.Event.TheVariants.{Name}
-use Rattle.far_core.specs.declared.naming.Naming.{Naming}
-use Rattle.far_core.specs.events.Naming.{IsNaming, naming_row, naming_change}
-use Rattle.far_core.specs.events.Touch.{CellAt, BookView, Touches}
+use Rattle.far_events.specs.declared.event.Event.TheVariants.{Name}
+use Rattle.far_events.specs.declared.naming.Naming.{Naming}
+use Rattle.far_events.specs.events.Naming.{IsNaming, naming_row, naming_change}
+use Rattle.far_events.specs.events.Touch.{CellAt, BookView, Touches}
 use Rattle.far_core.specs.laws.Worlds.{Causes}
-use Rattle.far_core.specs.state.Law.{Law}
-use Rattle.far_core.specs.state.State.{State}
+use Rattle.far_events.specs.state.Law.{Law}
+use Rattle.far_events.specs.state.State.{State}
 use Rattle.far_core.specs.world.Changes.{Step}
 use Rattle.far_core.specs.world.WorldOf.{world_of}
 
@@ -21,8 +21,6 @@ pub record IsMade (s : State) (p new : ℕ) (form : Naming) : Type 0 where
   pub legal : (naming_row s p new form).Legal
 
 pub record NamingOwed (p new : ℕ) (form : Naming) : Type 0 where
-  pub fact : (s : State) → (naming_row s p new form).test ≡ true → (naming_row s p new form).Legal
-  pub test : (s : State) → (naming_row s p new form).Legal → (naming_row s p new form).test ≡ true
   pub keeps : (s : State) → IsMade s p new form → Law (naming_row s p new form).after
   pub does : (s : State) → IsMade s p new form → Step (naming_change p form) (world_of s) (world_of (naming_row s p new form).after)
   pub within : (s : State) → Touches s (record { word = Some (CellAt p); part = BookView }) (naming_row s p new form).after

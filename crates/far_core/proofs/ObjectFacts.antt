@@ -8,11 +8,11 @@ use Rattle.far_word.specs.declared.sizes.TheConstants.{CELLS}
 use Rattle.far_word.specs.Bytes.{bytes_of}
 use Rattle.far_word.specs.Pointer.{read_of}
 use Rattle.far_word.proofs.ByteLaws.{bytes_of-get, length-bytes_of}
-use Rattle.far_core.specs.declared.event.Kind.{Kind}
-use Rattle.far_core.specs.declared.event.Kind.TheVariants as kinds
+use Rattle.far_events.specs.declared.event.Kind.{Kind}
+use Rattle.far_events.specs.declared.event.Kind.TheVariants as kinds
 use Rattle.far_core.specs.laws.Agreement.{ObjectAgrees}
-use Rattle.far_core.specs.state.Law.{in_use}
-use Rattle.far_core.specs.state.State.{State, addr}
+use Rattle.far_events.specs.state.Law.{in_use}
+use Rattle.far_events.specs.state.State.{State, addr}
 use Rattle.far_core.specs.world.World.{Object, Group, FarSide}
 use Rattle.far_core.specs.world.WorldOf.{world_of, object_of, is_group}
 

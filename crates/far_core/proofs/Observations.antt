@@ -18,14 +18,13 @@ use Rattle.far_log.specs.Spans.{Stands, Tile, HasOneSpan, HasNoSpan, span_at, sp
 use Rattle.far_log.specs.Walk.{IsWalk}
 use Rattle.far_log.proofs.Members.{here, there, split, none_in, All-from}
 use Rattle.far_log.proofs.SpanLaws.{has_one_span, has_no_span, spans_take}
-use Rattle.far_core.specs.declared.event.Kind.TheVariants as kinds
-use Rattle.far_core.specs.state.Law.{Law, Padded, in_use}
+use Rattle.far_events.specs.declared.event.Kind.TheVariants as kinds
+use Rattle.far_events.specs.state.Law.{Law, Padded, in_use}
 use Rattle.far_core.specs.laws.Observed.{live_bytes, dead_bytes, unused_bytes, span_for, OneLive, LiesNear, LiesFar, HasOnePlace, NamesOnce, LogsStand, NearHasOneLive, PlacedExactly}
-use Rattle.far_core.specs.state.Spans.{IsOfHeap, word_in, spans_of, is_live}
-use Rattle.far_core.specs.state.State.{State, addr}
-use Rattle.far_core.proofs.Bounds.{span_len}
-pub use Rattle.far_core.proofs.Cells.{live_names}
-use Rattle.far_core.proofs.KeepPlace.{header}
+use Rattle.far_events.specs.state.Spans.{IsOfHeap, word_in, spans_of, is_live}
+use Rattle.far_events.specs.state.State.{State, addr}
+use Rattle.far_events.proofs.Bounds.{span_len, header}
+pub use Rattle.far_events.proofs.Cells.{live_names}
 use Rattle.far_core.proofs.Keeps.{one_name}
 
 -- ---- from one header to the next

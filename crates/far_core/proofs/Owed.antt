@@ -1,17 +1,17 @@
 -- What each event owes.
 use Rattle.std.proofs.Common.{◌≡◌, ◌≢◌, ℕ, true}
-use Rattle.far_core.specs.declared.event.Event.{Event}
-use Rattle.far_core.specs.declared.event.Reply.{Reply}
-use Rattle.far_core.specs.declared.event.Reply.TheVariants.{Refused, Done, Epoch, Word, Held}
+use Rattle.far_events.specs.declared.event.Event.{Event}
+use Rattle.far_events.specs.declared.event.Reply.{Reply}
+use Rattle.far_events.specs.declared.event.Reply.TheVariants.{Refused, Done, Epoch, Word, Held}
 use Rattle.far_word.specs.declared.pointer.Place.{Place}
 use Rattle.far_core.specs.world.Happens.{Happens}
-use Rattle.far_core.specs.state.Law.{Law}
-use Rattle.far_core.specs.events.Leaves.{PartBy, WordBy}
-use Rattle.far_core.specs.events.Legal.{Legal}
-use Rattle.far_core.specs.state.State.{State}
-use Rattle.far_core.specs.events.Step.{is_legal, after, answer, touches, change_of, Fits}
-use Rattle.far_core.specs.events.Touch.{Touches}
-use Rattle.far_core.specs.events.Reports.{Reports}
+use Rattle.far_events.specs.state.Law.{Law}
+use Rattle.far_core.specs.laws.Leaves.{PartBy, WordBy}
+use Rattle.far_events.specs.events.Legal.{Legal}
+use Rattle.far_events.specs.state.State.{State}
+use Rattle.far_events.specs.events.Step.{is_legal, after, answer, touches, change_of, Fits}
+use Rattle.far_events.specs.events.Touch.{Touches}
+use Rattle.far_events.specs.events.Reports.{Reports}
 use Rattle.far_core.specs.laws.Worlds.{Caused}
 use Rattle.far_core.specs.world.WorldOf.{world_of}
 

@@ -1,14 +1,14 @@
 -- What every event owes, by its own file; and what follows of any event.
 use Rattle.std.proofs.Common.{◌≡◌, ◌≢◌, true}
-use Rattle.far_core.specs.declared.event.Event.{Event}
-use Rattle.far_core.specs.declared.event.Event.TheVariants.{ReadEpoch, Open, Pin, Load, Store, Soil, Close, Adopt, Put, Name, See, Mark, Ask, Get, Clear, Advance, Look, Offer, PeekJob, SeeJob, Claim, ReadLength, Read, Write, Finish, Collect}
-use Rattle.far_core.specs.declared.event.Reply.TheVariants.{Refused}
+use Rattle.far_events.specs.declared.event.Event.{Event}
+use Rattle.far_events.specs.declared.event.Event.TheVariants.{ReadEpoch, Open, Pin, Load, Store, Soil, Close, Adopt, Put, Name, See, Mark, Ask, Get, Clear, Advance, Look, Offer, PeekJob, SeeJob, Claim, ReadLength, Read, Write, Finish, Collect}
+use Rattle.far_events.specs.declared.event.Reply.TheVariants.{Refused}
 use Rattle.far_core.specs.world.Happens.{Happens}
-use Rattle.far_core.specs.state.Law.{Law}
-use Rattle.far_core.specs.events.Legal.{Legal}
-use Rattle.far_core.specs.state.State.{State}
-use Rattle.far_core.specs.events.Step.{is_legal, after, answer, Fits}
-use Rattle.far_core.specs.events.Reports.{RepliesReport, RefusalsReportNothing}
+use Rattle.far_events.specs.state.Law.{Law}
+use Rattle.far_events.specs.events.Legal.{Legal}
+use Rattle.far_events.specs.state.State.{State}
+use Rattle.far_events.specs.events.Step.{is_legal, after, answer, Fits}
+use Rattle.far_events.specs.events.Reports.{RepliesReport, RefusalsReportNothing}
 use Rattle.far_core.specs.world.WorldOf.{world_of}
 use Rattle.far_core.proofs.Owed.{Owed}
 use Rattle.far_core.proofs.events.ReadEpoch.{read_epoch_owed}

@@ -7,26 +7,27 @@ use Rattle.far_word.specs.Pointer.{read_of}
 use Rattle.far_word.specs.Sizes.{words_for}
 use Rattle.far_word.specs.declared.pointer.Place.{Place}
 use Rattle.far_word.specs.declared.sizes.TheConstants.{CELLS, LOG_WORDS}
-use Rattle.far_core.specs.declared.event.Event.{Event}
-use Rattle.far_core.specs.declared.event.Event.TheVariants.{Get, Put, Store}
-use Rattle.far_core.specs.declared.event.Kind.TheVariants.{Sealed}
-use Rattle.far_core.specs.declared.event.Reply.{Reply}
-use Rattle.far_core.specs.declared.event.Reply.TheVariants.{Refused}
+use Rattle.far_events.specs.declared.event.Event.{Event}
+use Rattle.far_events.specs.declared.event.Event.TheVariants.{Get, Put, Store}
+use Rattle.far_events.specs.declared.event.Kind.TheVariants.{Sealed}
+use Rattle.far_events.specs.declared.event.Reply.{Reply}
+use Rattle.far_events.specs.declared.event.Reply.TheVariants.{Refused}
 use Rattle.far_core.specs.declared.machine.Core.{Core}
-use Rattle.far_core.specs.declared.memory.Memory.{Memory}
-use Rattle.far_core.specs.events.Legal.{Legal}
-use Rattle.far_core.specs.events.Ranges.{AllLegal, after_events, copies, puts, stores, with_copy, with_row}
-use Rattle.far_core.specs.events.Step.{after, answer, data_len, data_word, near_data, near_len, step_of}
+use Rattle.far_events.specs.declared.memory.Memory.{Memory}
+use Rattle.far_events.specs.events.Legal.{Legal}
+use Rattle.far_events.specs.events.Ranges.{AllLegal, after_events, copies, puts, stores, with_copy, with_row}
+use Rattle.far_events.specs.events.Step.{after, answer, data_len, data_word, near_data, near_len, step_of}
 use Rattle.far_core.specs.state.CoreState.{core_state}
-use Rattle.far_core.specs.state.Law.{Law}
-use Rattle.far_core.specs.state.Memory.{state_of}
-use Rattle.far_core.specs.state.State.{State, addr, put}
+use Rattle.far_events.specs.state.Law.{Law}
+use Rattle.far_events.specs.state.Memory.{state_of}
+use Rattle.far_events.specs.state.State.{State, addr, put}
 use Rattle.far_core.proofs.Kept.{rows_after}
-use Rattle.far_core.proofs.Calls.{store_legal, word_behind, next_is_after}
+use Rattle.far_core.proofs.Calls.{store_legal}
+use Rattle.far_events.proofs.Calls.{word_behind, next_is_after}
+use Rattle.far_events.proofs.Ranges.{memory_put}
 use Rattle.far_core.proofs.Owing.{is_test, keeps}
-use Rattle.far_core.proofs.PackedRows.{copy_first}
-use Rattle.far_core.proofs.Rows.{row_first, row_in, row_none, row_out}
-use Rattle.far_core.proofs.Words.{put_there, with_put}
+use Rattle.far_events.proofs.PackedRows.{copy_first}
+use Rattle.far_events.proofs.Rows.{row_first, row_in, row_none, row_out}
 
 -- a row of events, of which event k writes word k of a row; Good stays from one to the next
 module _ (e : ℕ → Event) (d n : ℕ) (w : ℕ → ℕ) (Good : State → Type 0)
@@ -198,21 +199,16 @@ module _ (s : State) (law : Law s) (l a m b n : ℕ) (source : l < s.logs) (with
 
 -- ---- there is a core whose state is that after a put
 module _ (c : Core) (l at w : ℕ) (wide : w < 2 ^ 64) (legal : Legal (core_state c) (Put l at w)) where
-  abbrev memory_put : Memory
-  memory_put = record c.memory { words = with_put c.memory.words (l * LOG_WORDS + at) w }
-
-  put_is : state_of memory_put ≡ after (core_state c) (Put l at w)
-  unfolding state_of
-  put_is = ap (λ (f : ℕ → ℕ). record (state_of c.memory) { word = f })
-      (put_there c.memory.words (l * LOG_WORDS + at) w wide (omega (arith, legal.0, legal.3, c.memory.words_sized)))
+  made : (d : Memory) × (state_of d ≡ after (core_state c) (Put l at w))
+  made = memory_put c.memory (l * LOG_WORDS + at) w wide (omega (arith, legal.0, legal.3))
 
   pub core_put : (d : Core) × (core_state d ≡ after (core_state c) (Put l at w))
   core_put = (
     record {
-      memory = memory_put;
+      memory = made.0;
       rows = c.rows;
-      law = subst Law (sym put_is) (keeps (core_state c) (Put l at w) c.law wide legal);
-      rows_are = rows_after c.rows (state_of c.memory) (state_of memory_put) (Put l at w) (put_is ∙ sym (next_is_after (state_of c.memory) (Put l at w))) refl c.rows_are;
+      law = subst Law (sym made.1) (keeps (core_state c) (Put l at w) c.law wide legal);
+      rows_are = rows_after c.rows (state_of c.memory) (state_of made.0) (Put l at w) (made.1 ∙ sym (next_is_after (state_of c.memory) (Put l at w))) refl c.rows_are;
     },
-    put_is,
+    made.1,
   )

@@ -7,14 +7,14 @@ use Rattle.far_word.specs.declared.job.JobWord.TheVariants.{Empty, Offered, Take
 use Rattle.far_word.specs.declared.sizes.TheConstants.{MOST_COPIERS, POINTERS}
 use Rattle.far_word.specs.Job.{IsJob, job_of, job_sum}
 use Rattle.far_word.proofs.JobLaws.{job_says}
-use Rattle.far_core.specs.declared.event.Event.TheVariants as event
-use Rattle.far_core.specs.declared.event.Task.{Task}
-use Rattle.far_core.specs.events.Collect.{is_loose}
-use Rattle.far_core.specs.events.Tasks.{HasTask}
+use Rattle.far_events.specs.declared.event.Event.TheVariants as event
+use Rattle.far_events.specs.declared.event.Task.{Task}
+use Rattle.far_events.specs.events.Collect.{is_loose}
+use Rattle.far_events.specs.events.Tasks.{HasTask}
 use Rattle.far_core.specs.laws.Refusals.{CopyingIsRefused}
-use Rattle.far_core.specs.state.Jobs.{job_words}
-use Rattle.far_core.specs.state.Law.{Law}
-use Rattle.far_core.specs.state.State.{State}
+use Rattle.far_events.specs.state.Jobs.{job_words}
+use Rattle.far_events.specs.state.Law.{Law}
+use Rattle.far_events.specs.state.State.{State}
 use Rattle.far_core.proofs.RefusedEvents.{refused}
 
 -- the stage of a job stands in the two highest bits

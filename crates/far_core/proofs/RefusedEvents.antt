@@ -13,21 +13,21 @@ use Rattle.far_word.specs.declared.sizes.TheConstants.{LOG_WORDS}
 use Rattle.far_word.specs.Pointer.{read_of}
 use Rattle.far_word.specs.Sizes.{size_of, words_for}
 use Rattle.far_word.proofs.PointerLaws.{read_says}
-use Rattle.far_core.specs.declared.event.Event.{Event}
-use Rattle.far_core.specs.declared.event.Event.TheVariants as event
-use Rattle.far_core.specs.declared.event.Reply.TheVariants.{Refused}
-use Rattle.far_core.specs.events.Advance.{is_among}
-use Rattle.far_core.specs.events.Legal.{Legal, HoldsWord}
-use Rattle.far_core.specs.events.Offer.{MayOffer}
-use Rattle.far_core.specs.events.Step.{is_legal, after, answer}
+use Rattle.far_events.specs.declared.event.Event.{Event}
+use Rattle.far_events.specs.declared.event.Event.TheVariants as event
+use Rattle.far_events.specs.declared.event.Reply.TheVariants.{Refused}
+use Rattle.far_events.specs.events.Advance.{is_among}
+use Rattle.far_events.specs.events.Legal.{Legal, HoldsWord}
+use Rattle.far_events.specs.events.Offer.{MayOffer}
+use Rattle.far_events.specs.events.Step.{is_legal, after, answer}
 use Rattle.far_core.specs.laws.Refusals.{IsRefused, ScopesAreRefused, PointersAreRefused, WordsAreRefused, LogsAreRefused, OffersAreRefused, RoundsAreRefused, TargetsAreRefused, CopiesAreRefused}
-use Rattle.far_core.specs.state.Law.{Law, in_use}
-use Rattle.far_core.specs.state.State.{State, addr}
-use Rattle.far_core.proofs.Cells.{held_near, unused}
-use Rattle.far_core.proofs.NewSpans.{at_tail, unsealed}
+use Rattle.far_events.specs.state.Law.{Law, in_use}
+use Rattle.far_events.specs.state.State.{State, addr}
+use Rattle.far_events.proofs.Cells.{held_near, unused}
+use Rattle.far_events.proofs.NewSpans.{at_tail, unsealed}
 use Rattle.far_core.proofs.NamingFacts.{use_bit}
 use Rattle.far_core.proofs.Owing.{is_fact}
-use Rattle.far_core.proofs.Quieting.{quiet_unheld}
+use Rattle.far_events.proofs.Quieting.{quiet_unheld}
 
 -- an event that isn't legal is refused
 pub refused : (s : State) → Law s → (e : Event) → ¬ Legal s e → IsRefused s e

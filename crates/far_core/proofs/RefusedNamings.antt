@@ -12,23 +12,23 @@ use Rattle.far_word.specs.Mark.{field}
 use Rattle.far_word.specs.Pointer.{read_of}
 use Rattle.far_word.specs.Sizes.{size_of, words_for}
 use Rattle.far_word.proofs.PointerLaws.{read_says}
-use Rattle.far_core.specs.declared.event.Event.TheVariants.{Name}
-use Rattle.far_core.specs.declared.naming.Naming.{Naming}
-use Rattle.far_core.specs.declared.naming.Naming.TheVariants.{Places, Retires, Evicts, Stays, Moves, Fetches}
-use Rattle.far_core.specs.events.Copies.{Alike, data_at, EndsPadded}
-use Rattle.far_core.specs.events.Legal.{Legal, IsNewSpan, IsNext}
-use Rattle.far_core.specs.events.Naming.{IsNaming, is_dropped, naming_row, no_marks, unmarked}
-use Rattle.far_core.specs.events.Quiet.{has_move, IsQuiet}
+use Rattle.far_events.specs.declared.event.Event.TheVariants.{Name}
+use Rattle.far_events.specs.declared.naming.Naming.{Naming}
+use Rattle.far_events.specs.declared.naming.Naming.TheVariants.{Places, Retires, Evicts, Stays, Moves, Fetches}
+use Rattle.far_events.specs.events.Copies.{Alike, data_at, EndsPadded}
+use Rattle.far_events.specs.events.Legal.{Legal, IsNewSpan, IsNext}
+use Rattle.far_events.specs.events.Naming.{IsNaming, is_dropped, naming_row, no_marks, unmarked}
+use Rattle.far_events.specs.events.Quiet.{has_move, IsQuiet}
 use Rattle.far_core.specs.laws.Namings.{IsPlain}
 use Rattle.far_core.specs.laws.RefusedNamings.{NewWordIsRefused, ReachedIsRefused, StayIsRefused, PlaceIsRefused, IsElsewhere, NamingsAreRefused}
-use Rattle.far_core.specs.events.Copied.{WasCopied}
-use Rattle.far_core.proofs.Copied.{copied_elsewhere, copied_quiet}
-use Rattle.far_core.specs.state.Law.{Law, Blank, head_len}
-use Rattle.far_core.specs.state.State.{State, addr}
-use Rattle.far_core.proofs.Cells.{held_near, unused}
+use Rattle.far_events.specs.events.Copied.{WasCopied}
+use Rattle.far_events.proofs.Copied.{copied_elsewhere, copied_quiet}
+use Rattle.far_events.specs.state.Law.{Law, Blank, head_len}
+use Rattle.far_events.specs.state.State.{State, addr}
+use Rattle.far_events.proofs.Cells.{held_near, unused}
 use Rattle.far_core.proofs.NamingFacts.{drop_bit, namings_are_plain}
-use Rattle.far_core.proofs.NewSpans.{at_tail, unsealed}
-use Rattle.far_core.proofs.Quieting.{quiet_unheld}
+use Rattle.far_events.proofs.NewSpans.{at_tail, unsealed}
+use Rattle.far_events.proofs.Quieting.{quiet_unheld}
 use Rattle.far_core.proofs.RefusedEvents.{refused, over}
 
 -- ---- by the words alone

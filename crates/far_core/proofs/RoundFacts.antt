@@ -14,15 +14,15 @@ use Rattle.far_word.specs.Bytes.{bytes_of}
 use Rattle.far_word.specs.Pointer.{read_of}
 use Rattle.far_word.specs.Scope.{scope_of}
 use Rattle.far_word.proofs.ScopeLaws.{scope_back, scope_only, scope_says}
-use Rattle.far_core.specs.events.Advance.{is_among}
-use Rattle.far_core.specs.events.Look.{shows_clear, ShowsClear}
+use Rattle.far_events.specs.events.Advance.{is_among}
+use Rattle.far_events.specs.events.Look.{shows_clear, ShowsClear}
 use Rattle.far_core.specs.laws.Rounds.{RoundStands, ScopesShow, OneLogIsABit, SetsAreJoined, NoLogIsZero, FiveIsTwoLogs}
-use Rattle.far_core.specs.state.Law.{Law}
-use Rattle.far_core.specs.state.State.{State, addr}
+use Rattle.far_events.specs.state.Law.{Law}
+use Rattle.far_events.specs.state.State.{State, addr}
 use Rattle.far_core.specs.world.World.{Object, Group, FarSide}
 use Rattle.far_core.specs.world.WorldOf.{world_of, object_of, is_marked, is_group}
-use Rattle.far_core.proofs.Bounds.{some_of}
-use Rattle.far_core.proofs.Cells.{held_near}
+use Rattle.far_events.proofs.Bounds.{some_of}
+use Rattle.far_events.proofs.Cells.{held_near}
 
 -- ---- sets of logs
 and_false : (b : Bool) → (b && false) ≡ false

@@ -3,8 +3,8 @@ use Rattle.std.proofs.Common.{◌≡◌, ◌≢◌, ℕ, ◌+◌, ◌-◌, ◌*�
 use Rattle.std.proofs.lemmas.Bool.{false≢true, cases_order, cases_lt}
 use Rattle.far_word.specs.declared.sizes.TheConstants.{LOG_WORDS}
 use Rattle.far_word.specs.Sizes.{size_of}
-use Rattle.far_core.specs.state.Law.{Law, SpanAt, head_len}
-use Rattle.far_core.specs.state.State.{State}
+use Rattle.far_events.specs.state.Law.{Law, SpanAt, head_len}
+use Rattle.far_events.specs.state.State.{State}
 
 module _ (tail : ℕ → ℕ) (starts : ℕ → Bool) where
   -- no span begins inside another

@@ -2,22 +2,21 @@
 use Rattle.std.proofs.Common.{Bool, List, [], ap, cond, false, true, refl, subst, sym, ◌++◌, ◌/◌, ◌∙◌, ◌∷◌, ◌≡◌}
 use Rattle.std.proofs.lemmas.Bool.{cond_both, false_from_ne_true}
 use Rattle.std.specs.Prelude.{map}
-use Rattle.far_core.proofs.Cells.{held_near}
+use Rattle.far_events.proofs.Cells.{held_near}
 use Rattle.far_core.proofs.Keeps.{step_keeps}
-use Rattle.far_core.proofs.Owing.{is_fact, is_test}
+use Rattle.far_core.proofs.Owing.{is_fact, is_test, does, never_refused}
 use Rattle.far_core.specs.state.Agrees.{Agrees}
 use Rattle.far_core.specs.world.Happens.{Happens}
-use Rattle.far_core.specs.state.Law.{Law}
-use Rattle.far_core.specs.events.Legal.{Legal}
+use Rattle.far_events.specs.state.Law.{Law}
+use Rattle.far_events.specs.events.Legal.{Legal}
 use Rattle.far_core.specs.world.Runs.{Leads, Passes, Runs}
-use Rattle.far_core.specs.state.State.{State}
-use Rattle.far_core.specs.events.Step.{Fits, after, answer, is_legal, step_of}
+use Rattle.far_events.specs.state.State.{State}
+use Rattle.far_events.specs.events.Step.{Fits, after, answer, is_legal, step_of}
 use Rattle.far_core.specs.world.WorldOf.{world_of}
-use Rattle.far_core.specs.declared.event.Event.{Event}
-use Rattle.far_core.specs.declared.event.Reply.{Reply}
-use Rattle.far_core.specs.declared.event.Reply.TheVariants.{Refused}
+use Rattle.far_events.specs.declared.event.Event.{Event}
+use Rattle.far_events.specs.declared.event.Reply.{Reply}
+use Rattle.far_events.specs.declared.event.Reply.TheVariants.{Refused}
 use Rattle.far_word.specs.declared.sizes.TheConstants.{CELLS}
-use Rattle.far_core.proofs.Owing.{does, never_refused, is_fact, is_test}
 
 -- ---- views rest on what the law says
 pub agrees : (s : State) → Law s → Agrees s

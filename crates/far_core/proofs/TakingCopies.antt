@@ -13,35 +13,35 @@ use Rattle.far_word.specs.declared.pointer.PtrWord.TheVariants.{Near, Far}
 use Rattle.far_word.specs.Job.{job_of}
 use Rattle.far_word.specs.Mark.{position}
 use Rattle.far_word.specs.Pointer.{read_of, with_mark, without_evac}
-use Rattle.far_core.specs.declared.event.Event.{Event}
-use Rattle.far_core.specs.declared.event.Event.TheVariants.{ReadEpoch, Open, Pin, Load, Store, Soil, Close, Adopt, Put, Name, See, Mark, Ask, Get, Clear, Advance, Look, Offer, PeekJob, SeeJob, Claim, ReadLength, Read, Write, Finish, Collect}
-use Rattle.far_core.specs.declared.event.Reply.{Reply}
-use Rattle.far_core.specs.declared.event.Reply.TheVariants.{Refused}
-use Rattle.far_core.specs.declared.naming.Naming.{Naming}
-use Rattle.far_core.specs.declared.naming.Naming.TheVariants.{Places, Retires, Evicts, Stays, Moves, Fetches}
-use Rattle.far_core.specs.events.Copied.{WasCopied, copied_job}
-use Rattle.far_core.specs.events.Legal.{Legal}
-use Rattle.far_core.specs.events.Name.{after_naming}
-use Rattle.far_core.specs.events.Naming.{IsNaming, naming_of}
-use Rattle.far_core.specs.events.namings.Moves.{after_move}
-use Rattle.far_core.specs.events.Offer.{after_offer}
-use Rattle.far_core.specs.events.Step.{is_legal, after, answer, step_of, touches}
-use Rattle.far_core.specs.declared.event.Task.{Task}
-use Rattle.far_core.specs.events.Finish.{job_spot}
-use Rattle.far_core.specs.events.Touch.{BookView, CellAt}
+use Rattle.far_events.specs.declared.event.Event.{Event}
+use Rattle.far_events.specs.declared.event.Event.TheVariants.{ReadEpoch, Open, Pin, Load, Store, Soil, Close, Adopt, Put, Name, See, Mark, Ask, Get, Clear, Advance, Look, Offer, PeekJob, SeeJob, Claim, ReadLength, Read, Write, Finish, Collect}
+use Rattle.far_events.specs.declared.event.Reply.{Reply}
+use Rattle.far_events.specs.declared.event.Reply.TheVariants.{Refused}
+use Rattle.far_events.specs.declared.naming.Naming.{Naming}
+use Rattle.far_events.specs.declared.naming.Naming.TheVariants.{Places, Retires, Evicts, Stays, Moves, Fetches}
+use Rattle.far_events.specs.events.Copied.{WasCopied, copied_job}
+use Rattle.far_events.specs.events.Legal.{Legal}
+use Rattle.far_events.specs.events.Name.{after_naming}
+use Rattle.far_events.specs.events.Naming.{IsNaming, naming_of}
+use Rattle.far_events.specs.events.namings.Moves.{after_move}
+use Rattle.far_events.specs.events.Offer.{after_offer}
+use Rattle.far_events.specs.events.Step.{is_legal, after, answer, step_of, touches}
+use Rattle.far_events.specs.declared.event.Task.{Task}
+use Rattle.far_events.specs.events.Finish.{job_spot}
+use Rattle.far_events.specs.events.Touch.{BookView, CellAt}
 use Rattle.far_core.specs.laws.RefusedNamings.{IsElsewhere}
 use Rattle.far_core.specs.laws.Taking.{IsVoid, TakesCopy, CopiesAreTaken, TakingIsRefused}
-use Rattle.far_core.specs.state.Jobs.{is_finished, job_at, job_said, near_place}
-use Rattle.far_core.specs.state.Law.{Law}
-use Rattle.far_core.specs.state.State.{State, put}
-use Rattle.far_core.proofs.Cells.{map_mark, read_hot}
-use Rattle.far_core.proofs.Copied.{copied_fact, copied_test}
+use Rattle.far_events.specs.state.Jobs.{is_finished, job_at, job_said, near_place}
+use Rattle.far_events.specs.state.Law.{Law}
+use Rattle.far_events.specs.state.State.{State, put}
+use Rattle.far_events.proofs.Cells.{map_mark, read_hot}
+use Rattle.far_events.proofs.Copied.{copied_fact, copied_test}
 use Rattle.far_core.proofs.events.Name.{naming_owed}
-use Rattle.far_core.proofs.JobPlaces.{job_bounds}
-use Rattle.far_core.proofs.MadeNamings.{unbegun}
-use Rattle.far_core.proofs.Namings.{naming_only, naming_says}
+use Rattle.far_events.proofs.JobPlaces.{job_bounds}
+use Rattle.far_events.proofs.MadeNamings.{unbegun}
+use Rattle.far_events.proofs.Namings.{naming_only, naming_says}
 use Rattle.far_core.proofs.Owing.{is_fact, owed}
-use Rattle.far_core.proofs.Put.{put_other, put_same}
+use Rattle.far_events.proofs.Put.{put_other, put_same}
 use Rattle.far_core.proofs.RefusedEvents.{refused}
 use Rattle.far_core.proofs.RefusedNamings.{spanned}
 

@@ -10,18 +10,20 @@ use Rattle.far_word.specs.Pointer.{read_of}
 use Rattle.far_word.specs.Sizes.{words_for}
 use Rattle.far_word.proofs.HeaderLaws.{head_back}
 use Rattle.far_word.proofs.PointerLaws.{read_says}
-use Rattle.far_core.specs.events.Copies.{EndsPadded}
-use Rattle.far_core.specs.events.Copied.{with_named}
-use Rattle.far_core.specs.events.Naming.{unmarked}
-use Rattle.far_core.specs.events.NewSpans.{IsNewSpan, with_span}
-use Rattle.far_core.specs.state.Law.{Law, Blank, IsClean, IsStored, in_use}
-use Rattle.far_core.specs.state.State.{State, put, addr}
+use Rattle.far_events.specs.events.Copies.{EndsPadded}
+use Rattle.far_events.specs.events.Copied.{with_named}
+use Rattle.far_events.specs.events.Naming.{unmarked}
+use Rattle.far_events.specs.events.NewSpans.{IsNewSpan, with_span}
+use Rattle.far_events.specs.state.Law.{Law, Blank, IsClean, IsStored, in_use}
+use Rattle.far_events.specs.state.State.{State, put, addr}
 use Rattle.far_core.specs.world.World.{Object}
 use Rattle.far_core.specs.world.WorldOf.{world_of, object_of, is_group, is_marked}
-use Rattle.far_core.proofs.Copies.{padded_all}
-use Rattle.far_core.proofs.KeepPlace.{header, law_with_span}
-use Rattle.far_core.proofs.NewSpans.{at_tail, groups_then, unsealed}
-use Rattle.far_core.proofs.Put.{put_both, put_old, put_same, put_other}
+use Rattle.far_events.proofs.Copies.{padded_all}
+use Rattle.far_events.proofs.Bounds.{header}
+use Rattle.far_core.proofs.KeepPlace.{law_with_span}
+use Rattle.far_events.proofs.NewSpans.{at_tail, unsealed}
+use Rattle.far_core.proofs.NewSpans.{groups_then}
+use Rattle.far_events.proofs.Put.{put_both, put_old, put_same, put_other}
 use Rattle.far_core.proofs.Worlds.{World-ext}
 
 module _ (s : State) (law : Law s) (p new len ds : ℕ) (place : Place) (dirty : Bool) (says : read_of new ≡ Some (Near len ds place (unmarked dirty))) where

@@ -2,10 +2,10 @@
 use Rattle.std.proofs.Common.{◌≡◌, ◌≢◌, ℕ, Bool, ◌/◌, refl, sym, ap, ◌∙◌, Option, Some}
 use Rattle.far_word.specs.declared.pointer.Place.{Place}
 use Rattle.far_word.specs.declared.sizes.TheConstants.{CELLS}
-use Rattle.far_core.specs.declared.event.Event.{Event}
-use Rattle.far_core.specs.state.State.{Copying, State, put}
-use Rattle.far_core.specs.events.Touch.{Spot, EpochAt, ScopeAt, CellAt, WordAt, JobAt, SameCopier, CopierAt, Remembers, Uses, Rests, Soils, LetsGo, Touch, Touches, shared_word, spot_word}
-use Rattle.far_core.proofs.Put.{put_other}
+use Rattle.far_events.specs.declared.event.Event.{Event}
+use Rattle.far_events.specs.state.State.{Copying, State, put}
+use Rattle.far_events.specs.events.Touch.{Spot, EpochAt, ScopeAt, CellAt, WordAt, JobAt, SameCopier, CopierAt, Remembers, Uses, Rests, Soils, LetsGo, Touch, Touches, shared_word, spot_word}
+use Rattle.far_events.proofs.Put.{put_other}
 
 -- one word changes
 module _ (epoch : ℕ) (scope cell word job : ℕ → ℕ) (k w : ℕ) where

@@ -10,19 +10,19 @@ use Rattle.far_word.specs.declared.sizes.TheConstants.{CELLS}
 use Rattle.far_word.specs.Bytes.{bytes_of}
 use Rattle.far_word.specs.Pointer.{read_of}
 use Rattle.far_word.proofs.PointerLaws.{read_says}
-use Rattle.far_core.specs.declared.event.Kind.{Kind}
-use Rattle.far_core.specs.declared.event.Kind.TheVariants as kinds
-use Rattle.far_core.specs.declared.shape.Shape.{Shape}
-use Rattle.far_core.specs.state.Law.{Law}
-use Rattle.far_core.specs.state.Opening.{for_copiers, opening}
-use Rattle.far_core.specs.state.State.{State, put, addr}
+use Rattle.far_events.specs.declared.event.Kind.{Kind}
+use Rattle.far_events.specs.declared.event.Kind.TheVariants as kinds
+use Rattle.far_events.specs.declared.shape.Shape.{Shape}
+use Rattle.far_events.specs.state.Law.{Law}
+use Rattle.far_events.specs.state.Opening.{for_copiers, opening}
+use Rattle.far_events.specs.state.State.{State, put, addr}
 use Rattle.far_core.specs.world.World.{Object, Group, FarSide, start}
 use Rattle.far_core.specs.laws.Agreement.{ViewRests, MarksAgree, MarksExist}
 use Rattle.far_core.specs.world.WorldOf.{world_of, object_of, is_marked, is_group}
-use Rattle.far_core.proofs.Bounds.{some_of}
-use Rattle.far_core.proofs.Cells.{unused, held_near}
+use Rattle.far_events.proofs.Bounds.{some_of}
+use Rattle.far_events.proofs.Cells.{unused, held_near}
 use Rattle.far_core.proofs.Observations.{in_range}
-use Rattle.far_core.proofs.Put.{put_same}
+use Rattle.far_events.proofs.Put.{put_same}
 use Rattle.far_core.proofs.Worlds.{World-ext}
 
 -- a log that isn't free is a held group

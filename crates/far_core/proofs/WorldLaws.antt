@@ -9,20 +9,21 @@ use Rattle.far_word.specs.Bytes.{bytes_of, with_word}
 use Rattle.far_word.specs.Pointer.{read_of}
 use Rattle.far_word.proofs.ByteLaws.{length-bytes_of, bytes_of-small, length-with_word}
 use Rattle.far_word.proofs.PointerLaws.{read_says}
-use Rattle.far_core.specs.declared.event.Event.{Event}
-use Rattle.far_core.specs.world.Changes.{Change, Step, StepOf}
-use Rattle.far_core.specs.world.Changes as change
-use Rattle.far_core.specs.events.Step.{change_of}
+use Rattle.far_events.specs.declared.event.Event.{Event}
+use Rattle.far_events.specs.events.Changes.{Change}
+use Rattle.far_core.specs.world.Changes.{Step, StepOf}
+use Rattle.far_events.specs.events.Changes as change
+use Rattle.far_events.specs.events.Step.{change_of}
 use Rattle.far_core.proofs.Owing.{owed}
-use Rattle.far_core.specs.state.Law.{Law}
-use Rattle.far_core.specs.state.State.{State, put, addr}
+use Rattle.far_events.specs.state.Law.{Law}
+use Rattle.far_events.specs.state.State.{State, put, addr}
 use Rattle.far_core.specs.world.World.{World, Object, Group, FarSide, start}
 use Rattle.far_core.specs.laws.Worlds.{HasSameBytes, HasSameLength, ChangeKeeps, ChangesKeep, ChangesAreOne, Causes, Caused, EventsCause, SureOf, ObjectStands, ObjectsStand, StepKeeps, StepsKeep, LoadsRead, StepsAreOne, LyingIsOpen}
 use Rattle.far_core.specs.world.WorldOf.{world_of, object_of, is_group}
 use Rattle.far_core.specs.world.Steps.{Views, Writes, ComesNear, with_bytes, with_home}
-use Rattle.far_core.proofs.Cells.{unused}
+use Rattle.far_events.proofs.Cells.{unused}
 use Rattle.far_core.proofs.Observations.{in_range}
-use Rattle.far_core.proofs.Put.{put_both}
+use Rattle.far_events.proofs.Put.{put_both}
 use Rattle.far_core.proofs.WorldFacts.{held_group}
 
 -- ---- what each change keeps

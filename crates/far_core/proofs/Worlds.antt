@@ -3,12 +3,12 @@ use Rattle.std.proofs.Common.{None, Option, Some, ap, arith, cond, false, inl, i
 use Rattle.std.proofs.lemmas.Bool.{cases_eq, eq-eqb, ne_eqb}
 use Rattle.std.proofs.lemmas.Bool.Decides.{nat_tests}
 use Rattle.std.specs.Prelude.{is_some}
-use Rattle.far_core.proofs.Bounds.{one_name, span_len}
-use Rattle.far_core.proofs.Cells.{held_near}
+use Rattle.far_events.proofs.Bounds.{one_name, span_len}
+use Rattle.far_events.proofs.Cells.{held_near}
 use Rattle.far_core.proofs.KeepWords.{data_stays}
-use Rattle.far_core.proofs.Put.{put_other, put_same}
-use Rattle.far_core.specs.state.Law.{Heads, Law, head_len}
-use Rattle.far_core.specs.state.State.{State, addr, put}
+use Rattle.far_events.proofs.Put.{put_other, put_same}
+use Rattle.far_events.specs.state.Law.{Heads, Law, head_len}
+use Rattle.far_events.specs.state.State.{State, addr, put}
 use Rattle.far_core.specs.world.World.{Group, Object, World}
 use Rattle.far_core.specs.world.WorldOf.{object_of, world_of}
 use Rattle.far_core.specs.world.Steps.{Reads, Writes, with_bytes}

@@ -1,4 +1,3 @@
-pub mod events
 pub mod laws
 pub mod state
 pub mod world

@@ -1,6 +1,6 @@
 pub mod Agreement
-pub mod Ends
 pub mod Jobs
+pub mod Leaves
 pub mod Live
 pub mod Namings
 pub mod Observed

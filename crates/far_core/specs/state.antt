@@ -1,17 +1,4 @@
 pub mod Agrees
-pub mod Bits
-pub mod CopierRows
 pub mod CoreState
-pub mod Jobs
 pub mod Kept
-pub mod Law
-pub mod Memory
-pub mod Opening
 pub mod Room
-pub mod Rows
-pub mod Shape
-pub mod Spans
-pub mod State
-pub mod Stored
-pub mod StoredRows
-pub mod Words

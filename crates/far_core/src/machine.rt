@@ -3,9 +3,9 @@
 ghost use Rattle.std.specs.Prelude.{◌*◌};
 ghost use Rattle.std.specs.Option.{ForSome};
 ghost use Rattle.far_word.specs.declared.sizes.TheConstants.{CELLS};
-ghost use Rattle.far_core.specs.state.Law.{Law};
-ghost use Rattle.far_core.specs.state.Memory.{state_of};
-ghost use Rattle.far_core.specs.state.Stored.{RowsAre};
+ghost use Rattle.far_events.specs.state.Law.{Law};
+ghost use Rattle.far_events.specs.state.Memory.{state_of};
+ghost use Rattle.far_events.specs.state.Stored.{RowsAre};
 
 mod accesses;
 mod calls;
@@ -15,8 +15,7 @@ mod opening;
 mod placing;
 mod ranges;
 
-use crate::memory::Memory;
-use crate::memory::stored_rows::StoredRows;
+use far_events::{Memory, StoredRows};
 use std::fmt;
 
 /// A core: shared words and what each owner and the book know of them, as plain data that keeps the law.

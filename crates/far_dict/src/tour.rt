@@ -1,6 +1,6 @@
 //! A dictionary whose entries may be told one by one, for who can hold no borrow of it: the place up to which they were told is in itself.
 
-ghost use Rattle.std.specs.Prelude.{◌≡◌, ◌-◌, ◌^◌, ◌<◌, ◌≤◌, length, take, [], not, min, true, false, None, Some, Err, IsSome, IfErr, IfOk, IfSome, MatchOption, OnErr, OnOk};
+ghost use Rattle.std.specs.Prelude.{◌≡◌, ◌-◌, ◌^◌, ◌<◌, ◌≤◌, length, take, drop, [], not, min, true, false, None, Some, Err, IsSome, IfErr, IfOk, IfSome, MatchOption, OnErr, OnOk};
 ghost use Rattle.std.specs.FinMap as map;
 ghost use Rattle.far_word.specs.declared.refused.Refused.TheVariants.{Length, Memory};
 ghost use Rattle.far_map.specs.Listed.{AreAllOf};
@@ -53,6 +53,7 @@ fn copy_front(bytes: &[u8], out: &mut [u8])
     ensures long { length out.new ≡ length out.old }
     ensures copied { length bytes.now ≤ length out.old → take (length bytes.now) out.new ≡ bytes.now }
     ensures left { length out.old < length bytes.now → out.new ≡ out.old }
+    ensures behind { drop (length bytes.now) out.new ≡ drop (length bytes.now) out.old }
 {
     if bytes.len() > out.len() {
         return;
@@ -172,13 +173,15 @@ impl<O: Objects + Drop> Tour<O> {
         }
     }
 
-    /// How many bytes a key's value has, if it has one; `out` begins with them, where it has room for all. Refused as [`Dict::get`] is.
+    /// How many bytes a key's value has, if it has one; `out` begins with them, where it has room for all, and is as it was behind them. Refused as [`Dict::get`] is.
     pub fn get_to(&mut self, key: &[u8], out: &mut [u8]) -> Result<Option<usize>, Refused>
         ensures same { self.new ≡ self.old }
         ensures long { length out.new ≡ length out.old }
         ensures got { IsHonest self.old → IfOk result (λ r. MatchOption (map.get self.old.entries key.now) (r ≡ None) (λ value. r ≡ Some (length value))) }
         ensures told { IsHonest self.old → OnOk result (IfSome (map.get self.old.entries key.now) (λ value. length value ≤ length out.old → take (length value) out.new ≡ value)) }
         ensures left { IsHonest self.old → OnOk result (IfSome (map.get self.old.entries key.now) (λ value. length out.old < length value → out.new ≡ out.old)) }
+        ensures behind { IfOk result (λ r. MatchOption r (out.new ≡ out.old) (λ n. drop n out.new ≡ drop n out.old)) }
+        ensures kept { OnErr result (out.new ≡ out.old) }
         ensures why { IfErr result (IsWhyRead O.unreached (dictionary_in self.old)) }
     {
         let mut value = replace(&mut self.value, Vec::new(self.alloc));
@@ -261,7 +264,7 @@ impl<O: Objects + Drop> Tour<O> {
     }
 
     /// The same, into buffers: how many bytes the key and the value have, if there was an entry. It counts as told where there is room for both, and `key` and
-    /// `value` begin with them then.
+    /// `value` begin with them then; behind them they are as they were.
     pub fn next_to(
         &mut self,
         key: &mut [u8],
@@ -271,6 +274,8 @@ impl<O: Objects + Drop> Tour<O> {
         ensures told { IsHonest self.old → IfOk result (λ r. Tells self.old.rest r key.new value.new self.new.rest) }
         ensures long_key { length key.new ≡ length key.old }
         ensures long_value { length value.new ≡ length value.old }
+        ensures behind { IfOk result (λ r. MatchOption r ((key.new ≡ key.old) × (value.new ≡ value.old)) (λ n. (drop n.0 key.new ≡ drop n.0 key.old) × (drop n.1 value.new ≡ drop n.1 value.old))) }
+        ensures kept { OnErr result ((key.new ≡ key.old) × (value.new ≡ value.old)) }
         ensures refused { OnErr result (self.new ≡ self.old) }
         ensures why { IfErr result (IsWhyRead O.unreached (dictionary_in self.old)) }
     {
@@ -292,7 +297,8 @@ impl<O: Objects + Drop> Tour<O> {
 
     /// The worker of the entries that an object has room for.
     pub fn worker(&self) -> Option<&O>
-        ensures { IsSome result }
+        ensures there { IsSome result }
+        ensures whose { IfSome result (λ w. (O.far w.now).honest ≡ self.now.honest) }
     {
         match &self.state {
             State::Still(dict) => Some(dict.worker()),
@@ -303,7 +309,8 @@ impl<O: Objects + Drop> Tour<O> {
 
     /// The worker of the others' values.
     pub fn long_worker(&self) -> Option<&O>
-        ensures { IsSome result }
+        ensures there { IsSome result }
+        ensures whose { IfSome result (λ w. (O.far w.now).honest ≡ self.now.honest_long) }
     {
         match &self.state {
             State::Still(dict) => Some(dict.long_worker()),

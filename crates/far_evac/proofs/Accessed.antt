@@ -1,11 +1,11 @@
 -- An access of a closed owner leaves true what is true of an evacuator.
 use Rattle.std.proofs.Common.{◌≡◌, ◌∙◌, ℕ, Bool, List, [], ◌∷◌, ap, subst, sym}
-use Rattle.far_core.specs.declared.event.Event.{Event}
-use Rattle.far_core.specs.events.Accesses.{with_cell}
-use Rattle.far_core.specs.events.Ranges.{after_events}
-use Rattle.far_core.specs.events.Step.{step_of}
-use Rattle.far_core.specs.state.Law.{Law}
-use Rattle.far_core.specs.state.State.{State}
+use Rattle.far_events.specs.declared.event.Event.{Event}
+use Rattle.far_events.specs.events.Accesses.{with_cell}
+use Rattle.far_events.specs.events.Ranges.{after_events}
+use Rattle.far_events.specs.events.Step.{step_of}
+use Rattle.far_events.specs.state.Law.{Law}
+use Rattle.far_events.specs.state.State.{State}
 use Rattle.far_core.proofs.Keeps.{step_keeps}
 use Rattle.far_hand.proofs.OthersWork.{step_changes}
 use Rattle.far_book.specs.book.SealedLogs.{KeepsSealed}

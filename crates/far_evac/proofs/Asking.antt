@@ -1,5 +1,5 @@
 -- What a walk asks of the device, one object more; and which keys it leaves.
-use Rattle.far_core.specs.state.Law.{is_dirty}
+use Rattle.far_events.specs.state.Law.{is_dirty}
 use Rattle.far_book.proofs.region.Dirt.{up_by}
 use Rattle.std.proofs.Common.{◌≡◌, ◌≢◌, ◌∙◌, ℕ, Bool, ◌+◌, List, [], ◌∷◌, ◌++◌, Option, Some, None, ap, sym, refl, subst, inl, inr, take, arith}
 use Rattle.std.specs.Prelude.{false, Result, Ok, Err, IfNone, IfSome}
@@ -10,9 +10,9 @@ use Rattle.far_word.specs.Pointer.{read_of}
 use Rattle.far_device.specs.Following.{Follows, none_of, other_than}
 use Rattle.far_device.proofs.Following.{follows_on, follows_still}
 use Rattle.far_device.specs.declared.fault.DeviceFault.{DeviceFault}
-use Rattle.far_core.specs.events.Naming.{is_dropped}
-use Rattle.far_core.specs.state.State.{State, addr}
-use Rattle.far_core.proofs.Put.{put_same}
+use Rattle.far_events.specs.events.Naming.{is_dropped}
+use Rattle.far_events.specs.state.State.{State, addr}
+use Rattle.far_events.proofs.Put.{put_same}
 use Rattle.far_hand.specs.Finds.{Finds}
 use Rattle.far_hand.specs.Known.{IsKnown}
 use Rattle.far_book.specs.book.Asking.{AsksToEvict, HasBytes, WritesIt, fault_of}

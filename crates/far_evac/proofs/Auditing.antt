@@ -5,9 +5,9 @@ use Rattle.std.proofs.lemmas.List.{append-nil, append_assoc}
 use Rattle.far_word.specs.declared.pointer.PtrWord.{PtrWord}
 use Rattle.far_word.specs.declared.pointer.PtrWord.TheVariants.{Free, Near, Far}
 use Rattle.far_word.specs.Pointer.{read_of}
-use Rattle.far_core.specs.events.Naming.{is_dropped}
-use Rattle.far_core.specs.state.State.{State, put}
-use Rattle.far_core.proofs.Put.{put_other}
+use Rattle.far_events.specs.events.Naming.{is_dropped}
+use Rattle.far_events.specs.state.State.{State, put}
+use Rattle.far_events.proofs.Put.{put_other}
 use Rattle.far_book.specs.declared.home.Home.{Home}
 use Rattle.far_book.specs.book.Home.{home_of}
 use Rattle.far_hand.specs.Finds.{Finds}

@@ -13,14 +13,14 @@ use Rattle.far_device.specs.declared.fault.DeviceFault.{DeviceFault}
 use Rattle.far_word.specs.declared.refused.Refused.{Refused}
 use Rattle.far_word.specs.declared.refused.Refused.TheVariants.{Device as Failed, Memory}
 use Rattle.far_book.proofs.region.Calls.{put_put}
-use Rattle.far_core.specs.events.Naming.{is_dropped}
-use Rattle.far_core.specs.events.Offer as event
-use Rattle.far_core.specs.events.Quiet.{IsClearNear}
-use Rattle.far_core.specs.state.Law.{Law}
+use Rattle.far_events.specs.events.Naming.{is_dropped}
+use Rattle.far_events.specs.events.Offer as event
+use Rattle.far_events.specs.events.Quiet.{IsClearNear}
+use Rattle.far_events.specs.state.Law.{Law}
 use Rattle.far_core.specs.state.Room.{room}
-use Rattle.far_core.specs.state.Spans.{spans_of}
-use Rattle.far_core.specs.state.State.{State}
-use Rattle.far_core.proofs.Put.{put_both, put_same}
+use Rattle.far_events.specs.state.Spans.{spans_of}
+use Rattle.far_events.specs.state.State.{State}
+use Rattle.far_events.proofs.Put.{put_both, put_same}
 use Rattle.far_hand.specs.Finds.{Finds, marks_in}
 use Rattle.far_hand.specs.Quiet.{IsQuietNear}
 use Rattle.far_hand.proofs.Finding.{IsNearTo, finds_same}

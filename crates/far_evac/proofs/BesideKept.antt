@@ -3,7 +3,7 @@ use Rattle.std.proofs.Common.{◌≡◌, ℕ, zero, suc, Bool, true, false, cond
 use Rattle.std.proofs.lemmas.Bool.{cond_both, false≢true}
 use Rattle.std.specs.Prelude.{IfErr, IfOk}
 use Rattle.far_word.specs.declared.refused.Refused.{Refused}
-use Rattle.far_core.specs.state.State.{State}
+use Rattle.far_events.specs.state.State.{State}
 use Rattle.far_device.specs.declared.fault.DeviceFault.{DeviceFault}
 use Rattle.far_book.specs.book.Jobs.{has_job}
 use Rattle.far_evac.specs.declared.phase.Phase.TheVariants.{Idle}

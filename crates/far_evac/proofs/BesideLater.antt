@@ -9,8 +9,8 @@ use Rattle.far_word.specs.declared.pointer.PtrWord.{PtrWord}
 use Rattle.far_word.specs.declared.pointer.PtrWord.TheVariants.{Near}
 use Rattle.far_word.specs.Pointer.{read_of}
 use Rattle.far_log.specs.declared.span.Span.{Span}
-use Rattle.far_core.specs.state.Spans.{spans_of, is_live, names_place}
-use Rattle.far_core.specs.state.State.{State}
+use Rattle.far_events.specs.state.Spans.{spans_of, is_live, names_place}
+use Rattle.far_events.specs.state.State.{State}
 use Rattle.far_book.specs.book.NextLive.{live_from}
 
 and_off : (a b : Bool) → (a && false) ≡ (b && false)

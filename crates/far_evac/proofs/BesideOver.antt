@@ -6,8 +6,8 @@ use Rattle.far_word.specs.declared.pointer.PtrWord.TheVariants.{Free, Near, Far}
 use Rattle.far_word.specs.declared.refused.Refused.{Refused}
 use Rattle.far_word.specs.declared.sizes.TheConstants.{JOBS}
 use Rattle.far_word.specs.Pointer.{read_of}
-use Rattle.far_core.specs.state.Jobs.{job_at, near_place}
-use Rattle.far_core.specs.state.State.{State}
+use Rattle.far_events.specs.state.Jobs.{job_at, near_place}
+use Rattle.far_events.specs.state.State.{State}
 use Rattle.far_hand.specs.Finds.{body_of}
 use Rattle.far_book.specs.book.Jobs.{copies_from, has_job, has_job_at, is_good, noted_of, some_copies}
 use Rattle.far_evac.specs.AnyHand.{Knows, KnowsWalked}

@@ -8,10 +8,10 @@ use Rattle.far_word.specs.declared.pointer.PtrWord.TheVariants.{Free, Near, Far}
 use Rattle.far_word.specs.declared.refused.Refused.{Refused}
 use Rattle.far_word.specs.declared.sizes.TheConstants.{JOBS}
 use Rattle.far_word.specs.Pointer.{read_of}
-use Rattle.far_core.specs.events.Offer as event
-use Rattle.far_core.specs.state.Jobs.{job_at}
-use Rattle.far_core.specs.state.State.{State}
-use Rattle.far_core.proofs.Put.{put_other, put_same}
+use Rattle.far_events.specs.events.Offer as event
+use Rattle.far_events.specs.state.Jobs.{job_at}
+use Rattle.far_events.specs.state.State.{State}
+use Rattle.far_events.proofs.Put.{put_other, put_same}
 use Rattle.far_book.specs.book.Collecting.{CollectsKnown, Collects, Empties, Fate, Names, Stays, fate_in, found_so, made_of, named_of}
 use Rattle.far_book.specs.book.Effects.{near_word}
 use Rattle.far_book.specs.book.Offering.{offered_of, with_ends}

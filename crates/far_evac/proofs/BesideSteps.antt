@@ -13,19 +13,19 @@ use Rattle.far_word.specs.Sizes.{size_of, words_for}
 use Rattle.far_word.proofs.PointerLaws.{read_says}
 use Rattle.far_log.specs.declared.span.Span.{Span}
 use Rattle.far_log.specs.Spans.{spans_in}
-use Rattle.far_core.specs.declared.event.Kind.{Kind}
-use Rattle.far_core.specs.declared.event.Kind.TheVariants as kinds
-use Rattle.far_core.specs.events.Copies.{data_at}
-use Rattle.far_core.specs.events.Naming.{no_marks}
-use Rattle.far_core.specs.events.NewSpans.{with_span}
-use Rattle.far_core.specs.events.Ranges.{with_row}
-use Rattle.far_core.specs.events.Quiet.{IsClearNear}
+use Rattle.far_events.specs.declared.event.Kind.{Kind}
+use Rattle.far_events.specs.declared.event.Kind.TheVariants as kinds
+use Rattle.far_events.specs.events.Copies.{data_at}
+use Rattle.far_events.specs.events.Naming.{no_marks}
+use Rattle.far_events.specs.events.NewSpans.{with_span}
+use Rattle.far_events.specs.events.Ranges.{with_row}
+use Rattle.far_events.specs.events.Quiet.{IsClearNear}
 use Rattle.far_core.specs.laws.Rooms.{IsRoom, RoomIs}
-use Rattle.far_core.specs.state.Law.{Law}
+use Rattle.far_events.specs.state.Law.{Law}
 use Rattle.far_core.specs.state.Room.{room}
-use Rattle.far_core.specs.state.Spans.{is_live, names_place, spans_of, word_in}
-use Rattle.far_core.specs.state.State.{State, addr, put}
-use Rattle.far_core.proofs.Put.{put_other}
+use Rattle.far_events.specs.state.Spans.{is_live, names_place, spans_of, word_in}
+use Rattle.far_events.specs.state.State.{State, addr, put}
+use Rattle.far_events.proofs.Put.{put_other}
 use Rattle.far_core.proofs.RoomLaws.{room_right}
 use Rattle.far_hand.specs.Finds.{Finds}
 use Rattle.far_hand.specs.Quiet.{IsQuietNear}

@@ -10,14 +10,14 @@ use Rattle.far_word.specs.Sizes.{size_of}
 use Rattle.far_device.specs.Following.{Follows, none_of, other_than}
 use Rattle.far_device.proofs.Following.{follows_itself, follows_on, follows_still}
 use Rattle.far_log.specs.declared.span.Span.{Span}
-use Rattle.far_core.specs.declared.event.Event.{Event}
-use Rattle.far_core.specs.declared.event.Reply.{Reply}
-use Rattle.far_core.specs.declared.event.Kind.{Kind}
-use Rattle.far_core.specs.declared.event.Kind.TheVariants as kinds
-use Rattle.far_core.specs.events.Quiet.{IsClearNear}
-use Rattle.far_core.specs.state.Jobs.{near_place}
-use Rattle.far_core.specs.state.Law.{Law}
-use Rattle.far_core.specs.state.State.{State}
+use Rattle.far_events.specs.declared.event.Event.{Event}
+use Rattle.far_events.specs.declared.event.Reply.{Reply}
+use Rattle.far_events.specs.declared.event.Kind.{Kind}
+use Rattle.far_events.specs.declared.event.Kind.TheVariants as kinds
+use Rattle.far_events.specs.events.Quiet.{IsClearNear}
+use Rattle.far_events.specs.state.Jobs.{near_place}
+use Rattle.far_events.specs.state.Law.{Law}
+use Rattle.far_events.specs.state.State.{State}
 use Rattle.far_hand.specs.Came.{Came}
 use Rattle.far_hand.proofs.Closure.{then_came}
 use Rattle.far_book.specs.book.BookOf.{BookOf}

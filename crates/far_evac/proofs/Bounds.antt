@@ -7,9 +7,9 @@ use Rattle.far_word.specs.declared.sizes.TheConstants.{LOG_WORDS, MOST_LOGS}
 use Rattle.far_word.specs.Sizes.{size_of}
 use Rattle.far_log.specs.declared.span.Span.{Span}
 use Rattle.far_log.specs.Spans.{head_len, span_at, spans_from, spans_in}
-use Rattle.far_core.specs.state.Law.{Law}
-use Rattle.far_core.specs.state.Spans.{spans_of, is_live, word_in}
-use Rattle.far_core.specs.state.State.{State}
+use Rattle.far_events.specs.state.Law.{Law}
+use Rattle.far_events.specs.state.Spans.{spans_of, is_live, word_in}
+use Rattle.far_events.specs.state.State.{State}
 use Rattle.far_book.specs.book.Own.{own_part}
 use Rattle.far_evac.specs.declared.phase.Phase.{Phase}
 use Rattle.far_evac.specs.declared.phase.Phase.TheVariants.{Idle, Marking, Waiting, Evacuating}

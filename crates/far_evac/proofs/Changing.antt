@@ -9,11 +9,11 @@ use Rattle.far_word.specs.declared.pointer.PtrWord.TheVariants.{Near, Far}
 use Rattle.far_word.specs.Mark.{position}
 use Rattle.far_word.specs.Pointer.{read_of}
 use Rattle.far_word.proofs.PointerLaws.{with_mark_read, without_evac_read}
-use Rattle.far_core.specs.events.Clear.{evac_cleared, round_left}
-use Rattle.far_core.specs.state.Law.{Law}
-use Rattle.far_core.specs.state.Spans.{spans_of}
-use Rattle.far_core.specs.state.State.{State, put}
-use Rattle.far_core.proofs.Put.{put_both, put_same}
+use Rattle.far_events.specs.events.Clear.{evac_cleared, round_left}
+use Rattle.far_events.specs.state.Law.{Law}
+use Rattle.far_events.specs.state.Spans.{spans_of}
+use Rattle.far_events.specs.state.State.{State, put}
+use Rattle.far_events.proofs.Put.{put_both, put_same}
 use Rattle.far_hand.specs.Cleared.{cleared}
 use Rattle.far_hand.specs.Finds.{Finds, body_of, marks_in}
 use Rattle.far_hand.specs.Known.{Forgets}

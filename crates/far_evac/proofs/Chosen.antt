@@ -4,9 +4,9 @@ use Rattle.std.specs.List.{IsDistinct, list_any}
 use Rattle.std.proofs.lemmas.Bool.{true≢false}
 use Rattle.far_word.specs.declared.sizes.TheConstants.{EPOCH_END, MOST_LOGS}
 use Rattle.far_log.specs.declared.row.LogRow.{LogRow}
-use Rattle.far_core.specs.declared.event.Kind.TheVariants as kinds
-use Rattle.far_core.specs.state.Law.{Law}
-use Rattle.far_core.specs.state.State.{State}
+use Rattle.far_events.specs.declared.event.Kind.TheVariants as kinds
+use Rattle.far_events.specs.state.Law.{Law}
+use Rattle.far_events.specs.state.State.{State}
 use Rattle.far_book.specs.book.Own.{own_part}
 use Rattle.far_book.specs.book.Rows.{row_of}
 use Rattle.far_policy.specs.Choice.{IsChoice}

@@ -12,33 +12,33 @@ use Rattle.far_word.specs.declared.pointer.PtrWord.TheVariants as pointer
 use Rattle.far_word.specs.Job.{job_of}
 use Rattle.far_word.specs.Mark.{position}
 use Rattle.far_word.specs.Pointer.{read_of}
-use Rattle.far_core.specs.declared.event.Event.{Event}
-use Rattle.far_core.specs.declared.event.Event.TheVariants.{ReadEpoch, Open, Pin, Load, Store, Close, Adopt, Put, Name, See, Mark, Ask, Get, Clear, Advance, Look, Offer, PeekJob, SeeJob, Claim, ReadLength, Read, Write, Finish, Collect, Soil}
-use Rattle.far_core.specs.declared.event.Reply.{Reply}
-use Rattle.far_core.specs.declared.event.Reply.TheVariants.{Refused}
-use Rattle.far_core.specs.declared.event.Task.{Task}
-use Rattle.far_core.specs.declared.naming.Naming.{Naming}
-use Rattle.far_core.specs.declared.naming.Naming.TheVariants.{Places, Retires, Evicts, Stays, Moves, Fetches}
-use Rattle.far_core.specs.events.Claim.{after_claim, offered_in}
-use Rattle.far_core.specs.events.Clear.{evac_cleared, round_left}
-use Rattle.far_core.specs.events.Collect.{collected}
-use Rattle.far_core.specs.events.Copied.{WasCopied, copied_job, with_named}
-use Rattle.far_core.specs.events.Finish.{after_finish}
-use Rattle.far_core.specs.events.Offer.{after_offer}
-use Rattle.far_core.specs.events.Legal.{Legal}
-use Rattle.far_core.specs.events.Name.{after_naming}
-use Rattle.far_core.specs.events.Naming.{IsNaming, naming_of, naming_row, no_marks}
-use Rattle.far_core.specs.events.namings.Moves.{MayMove, after_move}
-use Rattle.far_core.specs.events.NewSpans.{IsNext, with_span}
-use Rattle.far_core.specs.events.Ranges.{after_events}
-use Rattle.far_core.specs.events.Step.{Fits, after, answer, is_legal, step_of}
-use Rattle.far_core.specs.state.Law.{Law}
-use Rattle.far_core.specs.state.State.{Copying, State, put}
-use Rattle.far_core.proofs.Copied.{copied_fact, copied_outside, copied_test}
+use Rattle.far_events.specs.declared.event.Event.{Event}
+use Rattle.far_events.specs.declared.event.Event.TheVariants.{ReadEpoch, Open, Pin, Load, Store, Close, Adopt, Put, Name, See, Mark, Ask, Get, Clear, Advance, Look, Offer, PeekJob, SeeJob, Claim, ReadLength, Read, Write, Finish, Collect, Soil}
+use Rattle.far_events.specs.declared.event.Reply.{Reply}
+use Rattle.far_events.specs.declared.event.Reply.TheVariants.{Refused}
+use Rattle.far_events.specs.declared.event.Task.{Task}
+use Rattle.far_events.specs.declared.naming.Naming.{Naming}
+use Rattle.far_events.specs.declared.naming.Naming.TheVariants.{Places, Retires, Evicts, Stays, Moves, Fetches}
+use Rattle.far_events.specs.events.Claim.{after_claim, offered_in}
+use Rattle.far_events.specs.events.Clear.{evac_cleared, round_left}
+use Rattle.far_events.specs.events.Collect.{collected}
+use Rattle.far_events.specs.events.Copied.{WasCopied, copied_job, with_named}
+use Rattle.far_events.specs.events.Finish.{after_finish}
+use Rattle.far_events.specs.events.Offer.{after_offer}
+use Rattle.far_events.specs.events.Legal.{Legal}
+use Rattle.far_events.specs.events.Name.{after_naming}
+use Rattle.far_events.specs.events.Naming.{IsNaming, naming_of, naming_row, no_marks}
+use Rattle.far_events.specs.events.namings.Moves.{MayMove, after_move}
+use Rattle.far_events.specs.events.NewSpans.{IsNext, with_span}
+use Rattle.far_events.specs.events.Ranges.{after_events}
+use Rattle.far_events.specs.events.Step.{Fits, after, answer, is_legal, step_of}
+use Rattle.far_events.specs.state.Law.{Law}
+use Rattle.far_events.specs.state.State.{Copying, State, put}
+use Rattle.far_events.proofs.Copied.{copied_fact, copied_outside, copied_test}
 use Rattle.far_core.proofs.Keeps.{step_keeps}
-use Rattle.far_core.proofs.Namings.{naming_only}
+use Rattle.far_events.proofs.Namings.{naming_only}
 use Rattle.far_core.proofs.Owing.{is_fact}
-use Rattle.far_core.proofs.Put.{put_both}
+use Rattle.far_events.proofs.Put.{put_both}
 use Rattle.far_hand.specs.Others.{OthersChange}
 use Rattle.far_hand.proofs.Finding.{near_known}
 use Rattle.far_hand.proofs.OthersWork.{change}

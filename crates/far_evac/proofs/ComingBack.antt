@@ -4,10 +4,10 @@ use Rattle.std.specs.List.{AllByRecursion}
 use Rattle.std.proofs.lemmas.Bool.{cond_both}
 use Rattle.far_word.specs.Pointer.{read_of}
 use Rattle.far_log.specs.Spans.{spans_in, taken_by}
-use Rattle.far_core.specs.declared.event.Kind.TheVariants.{Free}
-use Rattle.far_core.specs.state.Spans.{is_live, spans_of, word_in}
-use Rattle.far_core.specs.state.State.{State}
-use Rattle.far_core.proofs.Put.{put_both, put_same}
+use Rattle.far_events.specs.declared.event.Kind.TheVariants.{Free}
+use Rattle.far_events.specs.state.Spans.{is_live, spans_of, word_in}
+use Rattle.far_events.specs.state.State.{State}
+use Rattle.far_events.proofs.Put.{put_both, put_same}
 use Rattle.far_evac.specs.AnyHand.{FindsFirst, KnowsWalked, found_first}
 use Rattle.far_evac.specs.Emptied.{EmptiesLogs, IsEmptied, LogsComeBackEmpty}
 use Rattle.far_evac.specs.Live.{is_empty, live_in}

@@ -4,9 +4,9 @@ use mathlib.Core.Path.{fun_ext}
 use Rattle.far_word.specs.declared.job.Job.{Job}
 use Rattle.far_word.specs.declared.refused.Refused.{Refused}
 use Rattle.far_word.specs.declared.sizes.TheConstants.{JOBS}
-use Rattle.far_core.specs.state.Jobs.{job_at}
-use Rattle.far_core.specs.state.State.{State, put}
-use Rattle.far_core.proofs.Put.{put_both}
+use Rattle.far_events.specs.state.Jobs.{job_at}
+use Rattle.far_events.specs.state.State.{State, put}
+use Rattle.far_events.proofs.Put.{put_both}
 use Rattle.far_hand.specs.Known.{Forgets}
 use Rattle.far_hand.proofs.Finding.{finds_same}
 use Rattle.far_hand.proofs.JobsFound.{job_is}

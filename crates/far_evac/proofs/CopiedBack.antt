@@ -2,7 +2,7 @@
 use Rattle.std.proofs.Common.{◌≡◌, ◌+◌, ℕ, suc, Bool, true, false, cond, List, [], ◌∷◌, length, inl, inr, ap, arith, sym, refl, ◌∙◌, subst}
 use Rattle.std.proofs.lemmas.Bool.{cond_both, false≢true}
 use Rattle.far_word.specs.declared.refused.Refused.{Refused}
-use Rattle.far_core.specs.state.State.{State}
+use Rattle.far_events.specs.state.State.{State}
 use Rattle.far_evac.specs.declared.phase.Phase.TheVariants.{Idle}
 use Rattle.far_evac.specs.Beside.{At, Dealing, End, Leaves, Offers, OverLogs, WalksOver, dealt_by, freed_if, may_free}
 use Rattle.far_evac.specs.CopiedBack.{AreSome, CopiedComesBack, CountsBack}

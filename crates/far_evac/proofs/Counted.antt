@@ -7,8 +7,8 @@ use Rattle.std.proofs.lemmas.Bool.{cond_both, ne_eqb, not-true}
 use Rattle.std.proofs.lemmas.Bool.Decides.{nat_tests}
 use Rattle.far_word.specs.Pointer.{read_of}
 use Rattle.far_log.proofs.Members.{here, there}
-use Rattle.far_core.specs.state.Spans.{spans_of}
-use Rattle.far_core.specs.state.State.{State}
+use Rattle.far_events.specs.state.Spans.{spans_of}
+use Rattle.far_events.specs.state.State.{State}
 use Rattle.far_book.specs.book.Dealing.{has_evac}
 use Rattle.far_evac.specs.declared.phase.Phase.TheVariants.{Waiting}
 use Rattle.far_evac.specs.Laws.{IsCounted, MarkingIsCounted}

@@ -13,20 +13,20 @@ use Rattle.far_word.specs.Pointer.{IsPtr, read_of}
 use Rattle.far_word.specs.Sizes.{size_of, words_for}
 use Rattle.far_word.proofs.PointerLaws.{read_back}
 use Rattle.far_log.specs.Spans.{spans_in}
-use Rattle.far_core.specs.declared.event.Kind.{Kind}
-use Rattle.far_core.specs.declared.event.Kind.TheVariants as kinds
-use Rattle.far_core.specs.events.Copies.{data_at}
-use Rattle.far_core.specs.declared.naming.Naming.TheVariants.{Moves}
-use Rattle.far_core.specs.events.Copied.{copied_job}
-use Rattle.far_core.specs.events.Name.{after_naming}
-use Rattle.far_core.specs.events.Naming.{no_marks, unmarked}
-use Rattle.far_core.specs.events.namings.Moves.{after_move}
+use Rattle.far_events.specs.declared.event.Kind.{Kind}
+use Rattle.far_events.specs.declared.event.Kind.TheVariants as kinds
+use Rattle.far_events.specs.events.Copies.{data_at}
+use Rattle.far_events.specs.declared.naming.Naming.TheVariants.{Moves}
+use Rattle.far_events.specs.events.Copied.{copied_job}
+use Rattle.far_events.specs.events.Name.{after_naming}
+use Rattle.far_events.specs.events.Naming.{no_marks, unmarked}
+use Rattle.far_events.specs.events.namings.Moves.{after_move}
 use Rattle.far_core.specs.state.Room.{room, free_logs, is_free, lowest}
-use Rattle.far_core.specs.state.Spans.{spans_of, is_live, names_place}
-use Rattle.far_core.specs.state.State.{State, put, addr}
-use Rattle.far_core.specs.events.Clear.{is_near}
-use Rattle.far_core.proofs.Namings.{naming_only}
-use Rattle.far_core.proofs.Put.{put_both, put_other, put_same}
+use Rattle.far_events.specs.state.Spans.{spans_of, is_live, names_place}
+use Rattle.far_events.specs.state.State.{State, put, addr}
+use Rattle.far_events.specs.events.Clear.{is_near}
+use Rattle.far_events.proofs.Namings.{naming_only}
+use Rattle.far_events.proofs.Put.{put_both, put_other, put_same}
 use Rattle.far_book.specs.book.Effects.{moved, moved_of, evicted, near_word, far_word, with_free_cell, with_written_span}
 use Rattle.far_book.proofs.region.Evictions.{evicted_is, far_says, sent}
 use Rattle.far_book.proofs.region.Moved.{no_stay}

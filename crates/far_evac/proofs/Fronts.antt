@@ -11,11 +11,11 @@ use Rattle.far_word.specs.Pointer.{read_of}
 use Rattle.far_word.specs.Sizes.{size_of}
 use Rattle.far_log.specs.declared.span.Span.{Span}
 use Rattle.far_log.proofs.Members.{here, there, split, none_in}
-use Rattle.far_core.specs.events.Get.{IsVacant}
+use Rattle.far_events.specs.events.Get.{IsVacant}
 use Rattle.far_core.specs.laws.Observed.{span_for}
-use Rattle.far_core.specs.state.Law.{Law}
-use Rattle.far_core.specs.state.Spans.{spans_of, is_live}
-use Rattle.far_core.specs.state.State.{State}
+use Rattle.far_events.specs.state.Law.{Law}
+use Rattle.far_events.specs.state.Spans.{spans_of, is_live}
+use Rattle.far_events.specs.state.State.{State}
 use Rattle.far_core.proofs.Observations as observations
 use Rattle.far_hand.specs.Finds.{Finds}
 use Rattle.far_book.specs.book.NextLive.{IsBoundary, live_from}

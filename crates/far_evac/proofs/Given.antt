@@ -1,8 +1,8 @@
 -- Which logs a walk gives back: those in front, which leave the round.
 use Rattle.std.proofs.Common.{◌≡◌, ℕ, ◌≤◌, false, List, [], ◌∷◌, length, take, drop, arith, ap, sym, refl, ◌∙◌, subst}
 use Rattle.std.specs.List.{AllByRecursion}
-use Rattle.far_core.specs.state.State.{State}
-use Rattle.far_core.proofs.Put.{put_both, put_same}
+use Rattle.far_events.specs.state.State.{State}
+use Rattle.far_events.proofs.Put.{put_both, put_same}
 use Rattle.far_evac.specs.AnyHand.{KnowsWalked, WalksTo}
 use Rattle.far_evac.specs.Dealings.{GivesBack}
 use Rattle.far_evac.specs.Moment.{Moment}

@@ -4,9 +4,9 @@ use Rattle.std.specs.Prelude.{fold}
 use Rattle.std.proofs.lemmas.Bool.{and_parts}
 use Rattle.far_word.specs.declared.job.Job.{Job}
 use Rattle.far_word.specs.Pointer.{read_of}
-use Rattle.far_core.specs.state.Jobs.{near_place}
-use Rattle.far_core.specs.state.Law.{Law}
-use Rattle.far_core.specs.state.State.{State}
+use Rattle.far_events.specs.state.Jobs.{near_place}
+use Rattle.far_events.specs.state.Law.{Law}
+use Rattle.far_events.specs.state.State.{State}
 use Rattle.far_hand.specs.Masked.{AllFindJobs}
 use Rattle.far_hand.proofs.JobsFound.{job_is}
 use Rattle.far_book.specs.book.Own.{HasNoJob, own_part}

@@ -2,7 +2,7 @@
 use Rattle.std.proofs.Common.{◌≡◌, true, false, List, [], ℕ, ap, ◌∙◌, subst}
 use Rattle.std.specs.Prelude.{fold}
 use Rattle.far_word.specs.declared.sizes.TheConstants.{JOBS}
-use Rattle.far_core.specs.state.State.{State}
+use Rattle.far_events.specs.state.State.{State}
 use Rattle.far_book.specs.book.Collecting.{TakesBack}
 use Rattle.far_evac.specs.declared.phase.Phase.TheVariants.{Idle}
 use Rattle.far_evac.specs.AnyHand.{GivesUp, Knows}

@@ -8,10 +8,10 @@ use Rattle.far_word.specs.declared.pointer.PtrWord.TheVariants.{Near, Far}
 use Rattle.far_word.specs.Pointer.{read_of}
 use Rattle.far_word.specs.Sizes.{size_of}
 use Rattle.far_log.proofs.Members.{here, there}
-use Rattle.far_core.specs.events.Naming.{no_marks}
+use Rattle.far_events.specs.events.Naming.{no_marks}
 use Rattle.far_core.specs.state.Room.{room}
-use Rattle.far_core.specs.state.State.{State}
-use Rattle.far_core.proofs.Put.{put_same}
+use Rattle.far_events.specs.state.State.{State}
+use Rattle.far_events.proofs.Put.{put_same}
 use Rattle.far_evac.specs.Dealings.{says}
 use Rattle.far_evac.specs.Live.{live_among, live_in}
 use Rattle.far_evac.specs.Moment.{Moment}

@@ -6,10 +6,10 @@ use Rattle.far_word.specs.declared.refused.Refused.{Refused}
 use Rattle.far_word.specs.declared.sizes.TheConstants.{CELLS, LONGEST}
 use Rattle.far_word.specs.Pointer.{read_of}
 use Rattle.far_word.specs.Sizes.{size_of}
-use Rattle.far_core.specs.events.Naming.{is_dropped}
-use Rattle.far_core.specs.state.Law.{Law}
+use Rattle.far_events.specs.events.Naming.{is_dropped}
+use Rattle.far_events.specs.state.Law.{Law}
 use Rattle.far_core.specs.state.Room.{room}
-use Rattle.far_core.specs.state.State.{State, put}
+use Rattle.far_events.specs.state.State.{State, put}
 use Rattle.far_hand.specs.Finds.{Finds}
 use Rattle.far_hand.specs.Known.{Forgets}
 use Rattle.far_book.specs.book.Dealing.{IsRetired, IsSeen, MovedBy, goal, has_evac, moved_now}
@@ -20,7 +20,7 @@ use Rattle.far_book.specs.book.Own.{own_part}
 use Rattle.far_book.specs.book.Renaming.{seen}
 use Rattle.far_book.specs.book.SealedLogs.{KeepsSealed}
 use Rattle.far_hand.proofs.RoundSteps.{quiet_seen}
-use Rattle.far_core.proofs.Put.{put_same}
+use Rattle.far_events.proofs.Put.{put_same}
 use Rattle.far_book.proofs.region.Founds.{law_found}
 use Rattle.far_book.proofs.region.Moved.{goal_there, has_moved}
 use Rattle.far_book.proofs.region.Settled.{goal_seen}

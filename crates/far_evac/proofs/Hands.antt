@@ -8,15 +8,15 @@ use Rattle.far_word.specs.declared.pointer.Place.{Place}
 use Rattle.far_word.specs.declared.pointer.PtrWord.TheVariants.{Near, Far}
 use Rattle.far_word.specs.Pointer.{IsPtr, read_of}
 use Rattle.far_word.specs.Sizes.{words_for}
-use Rattle.far_core.specs.events.Copies.{data_at}
-use Rattle.far_core.specs.events.Naming.{is_dropped, no_marks, unmarked}
-use Rattle.far_core.specs.events.NewSpans.{with_span}
-use Rattle.far_core.specs.state.Law.{Law}
-use Rattle.far_core.specs.state.Spans.{spans_of}
-use Rattle.far_core.specs.state.State.{State, addr}
-use Rattle.far_core.specs.events.namings.Evicts.{with_kept}
-use Rattle.far_core.proofs.Copied.{NoCopy}
-use Rattle.far_core.proofs.Put.{put_both, put_other, put_same}
+use Rattle.far_events.specs.events.Copies.{data_at}
+use Rattle.far_events.specs.events.Naming.{is_dropped, no_marks, unmarked}
+use Rattle.far_events.specs.events.NewSpans.{with_span}
+use Rattle.far_events.specs.state.Law.{Law}
+use Rattle.far_events.specs.state.Spans.{spans_of}
+use Rattle.far_events.specs.state.State.{State, addr}
+use Rattle.far_events.specs.events.namings.Evicts.{with_kept}
+use Rattle.far_events.proofs.Copied.{NoCopy}
+use Rattle.far_events.proofs.Put.{put_both, put_other, put_same}
 use Rattle.far_hand.specs.Finds.{Finds, marks_in, body_of}
 use Rattle.far_hand.specs.Known.{Forgets, IsKnown}
 use Rattle.far_book.specs.book.Dealing.{Leaves, LeavesSpans}

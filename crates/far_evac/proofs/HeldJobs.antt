@@ -10,17 +10,17 @@ use Rattle.far_word.specs.declared.pointer.PtrWord.{PtrWord}
 use Rattle.far_word.specs.declared.pointer.PtrWord.TheVariants.{Free, Near, Far}
 use Rattle.far_word.specs.Job.{job_of}
 use Rattle.far_word.specs.Pointer.{read_of}
-use Rattle.far_core.specs.declared.event.Event.TheVariants.{Store}
-use Rattle.far_core.specs.declared.event.Reply.{Reply}
-use Rattle.far_core.specs.declared.event.Reply.TheVariants.{Refused}
-use Rattle.far_core.specs.events.Get.{IsUncopied}
-use Rattle.far_core.specs.events.Ranges.{after_events, stores}
-use Rattle.far_core.specs.events.Step.{after, answer, is_legal, step_of}
-use Rattle.far_core.specs.state.Jobs.{job_said, near_place}
-use Rattle.far_core.specs.state.Law.{Law}
-use Rattle.far_core.specs.state.State.{State}
-use Rattle.far_core.proofs.KeepJobs.{unworded}
-use Rattle.far_core.proofs.Put.{put_both}
+use Rattle.far_events.specs.declared.event.Event.TheVariants.{Store}
+use Rattle.far_events.specs.declared.event.Reply.{Reply}
+use Rattle.far_events.specs.declared.event.Reply.TheVariants.{Refused}
+use Rattle.far_events.specs.events.Get.{IsUncopied}
+use Rattle.far_events.specs.events.Ranges.{after_events, stores}
+use Rattle.far_events.specs.events.Step.{after, answer, is_legal, step_of}
+use Rattle.far_events.specs.state.Jobs.{job_said, near_place}
+use Rattle.far_events.specs.state.Law.{Law}
+use Rattle.far_events.specs.state.State.{State}
+use Rattle.far_events.proofs.JobPlaces.{unworded}
+use Rattle.far_events.proofs.Put.{put_both}
 use Rattle.far_hand.specs.Masked.{AllFindJobs}
 use Rattle.far_hand.specs.Others.{OthersChange}
 use Rattle.far_hand.proofs.Finding.{place_found}

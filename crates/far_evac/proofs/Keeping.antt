@@ -8,13 +8,13 @@ use Rattle.far_word.specs.declared.pointer.Place.{Place}
 use Rattle.far_word.specs.declared.pointer.PtrWord.TheVariants.{Near}
 use Rattle.far_word.specs.declared.sizes.TheConstants.{EPOCH_END, LOG_WORDS}
 use Rattle.far_word.specs.Pointer.{read_of}
-use Rattle.far_core.specs.declared.event.Kind.TheVariants.{Sealed}
-use Rattle.far_core.specs.declared.event.Event.TheVariants.{Store}
-use Rattle.far_core.specs.declared.event.Reply.{Reply}
-use Rattle.far_core.specs.declared.event.Reply.TheVariants.{Refused}
-use Rattle.far_core.specs.events.Ranges.{after_events, stores}
-use Rattle.far_core.specs.events.Step.{after, answer, is_legal, step_of}
-use Rattle.far_core.specs.state.State.{State}
+use Rattle.far_events.specs.declared.event.Kind.TheVariants.{Sealed}
+use Rattle.far_events.specs.declared.event.Event.TheVariants.{Store}
+use Rattle.far_events.specs.declared.event.Reply.{Reply}
+use Rattle.far_events.specs.declared.event.Reply.TheVariants.{Refused}
+use Rattle.far_events.specs.events.Ranges.{after_events, stores}
+use Rattle.far_events.specs.events.Step.{after, answer, is_legal, step_of}
+use Rattle.far_events.specs.state.State.{State}
 use Rattle.far_hand.specs.Beside.{hidden}
 use Rattle.far_hand.specs.Others.{OthersChange}
 use Rattle.far_book.specs.book.NextLive.{IsBoundary}

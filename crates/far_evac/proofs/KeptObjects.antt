@@ -10,15 +10,15 @@ use Rattle.far_word.specs.declared.sizes.TheConstants.{CELLS}
 use Rattle.far_word.specs.Pointer.{read_of}
 use Rattle.far_word.specs.Sizes.{size_of}
 use Rattle.far_word.proofs.PointerLaws.{read_says}
-use Rattle.far_core.specs.events.Naming.{is_dropped, no_marks, unmarked}
-use Rattle.far_core.specs.state.Law.{Law, is_dirty}
+use Rattle.far_events.specs.events.Naming.{is_dropped, no_marks, unmarked}
+use Rattle.far_events.specs.state.Law.{Law, is_dirty}
 use Rattle.far_core.specs.state.Room.{room}
-use Rattle.far_core.specs.state.State.{State, put}
+use Rattle.far_events.specs.state.State.{State, put}
 use Rattle.far_core.specs.world.Steps.{with_home}
 use Rattle.far_core.specs.world.World.{FarSide, Group, Home, Object, World}
 use Rattle.far_core.specs.world.WorldOf.{object_of, world_of}
-use Rattle.far_core.proofs.Cells.{unused}
-use Rattle.far_core.proofs.Put.{put_both}
+use Rattle.far_events.proofs.Cells.{unused}
+use Rattle.far_events.proofs.Put.{put_both}
 use Rattle.far_hand.specs.Beside.{with_others}
 use Rattle.far_hand.specs.Quiet.{is_quiet}
 use Rattle.far_book.specs.book.Effects.{evicted, moved, with_free_cell}

@@ -1,8 +1,8 @@
 -- What the calls of a round leave of what owners have: all of it.
 use Rattle.std.proofs.Common.{ℕ, ◌^◌, ◌<◌, true, Option, Some, None, [], ◌∷◌, ap, sym, refl, ◌∙◌}
 use Rattle.std.specs.Prelude.{fold}
-use Rattle.far_core.specs.state.Law.{Law}
-use Rattle.far_core.specs.state.State.{State}
+use Rattle.far_events.specs.state.Law.{Law}
+use Rattle.far_events.specs.state.State.{State}
 use Rattle.far_evac.specs.declared.phase.Phase.{Phase}
 use Rattle.far_evac.specs.declared.phase.Phase.TheVariants.{Evacuating}
 use Rattle.far_evac.specs.Live.{live_among}

@@ -19,12 +19,12 @@ use Rattle.far_word.specs.Sizes.{size_of}
 use Rattle.far_log.specs.declared.span.Span.{Span}
 use Rattle.far_log.specs.Spans.{head_len, span_at, spans_from, spans_in}
 use Rattle.far_log.proofs.Members.{here, there, split, none_in}
-use Rattle.far_core.specs.events.Clear.{evac_cleared, round_left}
+use Rattle.far_events.specs.events.Clear.{evac_cleared, round_left}
 use Rattle.far_core.specs.laws.Observed.{span_for}
-use Rattle.far_core.specs.state.Law.{Law}
-use Rattle.far_core.specs.state.Spans.{spans_of, is_live, names_place, word_in}
-use Rattle.far_core.specs.state.State.{State, put}
-use Rattle.far_core.proofs.Put.{put_both}
+use Rattle.far_events.specs.state.Law.{Law}
+use Rattle.far_events.specs.state.Spans.{spans_of, is_live, names_place, word_in}
+use Rattle.far_events.specs.state.State.{State, put}
+use Rattle.far_events.proofs.Put.{put_both}
 use Rattle.far_hand.specs.Finds.{body_of}
 use Rattle.far_book.specs.book.Dealing.{has_evac}
 use Rattle.far_book.specs.book.Effects.{marked}
@@ -39,12 +39,11 @@ use Rattle.far_evac.specs.RoundSteps.{among, unmarked}
 use Rattle.far_evac.specs.Standing.{MarkedAmong}
 use Rattle.far_evac.proofs.Changing.{marked_fits, marked_known}
 use Rattle.far_evac.proofs.Fronts.{kept_in}
-use Rattle.far_evac.proofs.SmallSteps.{drop_next}
+use Rattle.far_evac.proofs.SmallSteps.{drop_next, left_known}
 use Rattle.far_evac.proofs.Hands.{knows_more}
 use Rattle.far_evac.proofs.LiveOnce.{LivesIn, all_append, apart, behind, but, but_first, each_map, live_named, near_at, not_there}
 use Rattle.far_evac.proofs.Marks.{IsNearWord, all_filter, all_near, clear_sets, live_near, mark_sets}
 use Rattle.far_evac.proofs.Onward.{or_split}
-use Rattle.far_evac.proofs.SmallSteps.{left_known}
 use Rattle.far_evac.proofs.Passing.{alive, listed}
 use Rattle.far_evac.proofs.Bools.{or_left, or_right}
 

@@ -11,17 +11,17 @@ use Rattle.far_word.specs.declared.pointer.PtrWord.TheVariants.{Near}
 use Rattle.far_word.specs.declared.sizes.TheConstants.{CELLS, EPOCH_END, MOST_LOGS}
 use Rattle.far_word.specs.Pointer.{read_of}
 use Rattle.far_word.proofs.PointerLaws.{without_evac_read}
-use Rattle.far_core.specs.declared.event.Event.{Event}
-use Rattle.far_core.specs.declared.event.Event.TheVariants.{Clear, Look}
-use Rattle.far_core.specs.declared.event.Kind.TheVariants.{Sealed}
-use Rattle.far_core.specs.events.Mark.{is_sealed}
-use Rattle.far_core.specs.events.Clear.{IsNear, evac_cleared}
-use Rattle.far_core.specs.events.Legal.{Legal}
-use Rattle.far_core.specs.events.Step.{Fits, after}
-use Rattle.far_core.specs.state.Law.{Law}
-use Rattle.far_core.specs.state.State.{Copying, State}
-use Rattle.far_core.proofs.Put.{put_both}
-use Rattle.far_core.proofs.Guards.{sealed_fact}
+use Rattle.far_events.specs.declared.event.Event.{Event}
+use Rattle.far_events.specs.declared.event.Event.TheVariants.{Clear, Look}
+use Rattle.far_events.specs.declared.event.Kind.TheVariants.{Sealed}
+use Rattle.far_events.specs.events.Mark.{is_sealed}
+use Rattle.far_events.specs.events.Clear.{IsNear, evac_cleared}
+use Rattle.far_events.specs.events.Legal.{Legal}
+use Rattle.far_events.specs.events.Step.{Fits, after}
+use Rattle.far_events.specs.state.Law.{Law}
+use Rattle.far_events.specs.state.State.{Copying, State}
+use Rattle.far_events.proofs.Put.{put_both}
+use Rattle.far_events.proofs.Guards.{sealed_fact}
 use Rattle.far_book.specs.book.Reached.{IsOfBook, Reached}
 use Rattle.far_policy.proofs.Choices.{rows_told}
 use Rattle.far_book.specs.book.Rows.{row_of}

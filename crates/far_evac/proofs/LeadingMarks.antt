@@ -14,14 +14,14 @@ use Rattle.far_word.specs.declared.sizes.TheConstants.{CELLS, EPOCH_END, MOST_LO
 use Rattle.far_word.specs.Mark.{marks_with, position}
 use Rattle.far_word.specs.Pointer.{read_of}
 use Rattle.far_word.proofs.PointerLaws.{with_mark_read}
-use Rattle.far_core.specs.declared.event.Event.TheVariants.{Advance, Mark}
-use Rattle.far_core.specs.declared.event.Kind.TheVariants as kinds
-use Rattle.far_core.specs.events.Advance.{MayAdvance, is_among}
-use Rattle.far_core.specs.events.Mark.{IsSealedNear, is_sealed}
-use Rattle.far_core.specs.state.Jobs.{near_place}
-use Rattle.far_core.specs.state.Law.{Law}
-use Rattle.far_core.specs.state.State.{State}
-use Rattle.far_core.proofs.Put.{put_both}
+use Rattle.far_events.specs.declared.event.Event.TheVariants.{Advance, Mark}
+use Rattle.far_events.specs.declared.event.Kind.TheVariants as kinds
+use Rattle.far_events.specs.events.Advance.{MayAdvance, is_among}
+use Rattle.far_events.specs.events.Mark.{IsSealedNear, is_sealed}
+use Rattle.far_events.specs.state.Jobs.{near_place}
+use Rattle.far_events.specs.state.Law.{Law}
+use Rattle.far_events.specs.state.State.{State}
+use Rattle.far_events.proofs.Put.{put_both}
 use Rattle.far_book.specs.book.Dealing.{has_evac}
 use Rattle.far_book.specs.book.Effects.{marked}
 use Rattle.far_book.specs.book.Reached.{Reached}

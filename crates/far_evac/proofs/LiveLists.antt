@@ -9,9 +9,9 @@ use Rattle.far_word.specs.Pointer.{read_of}
 use Rattle.far_word.specs.Sizes.{size_of}
 use Rattle.far_log.specs.declared.span.Span.{Span}
 use Rattle.far_log.specs.Spans.{head_len, span_at, spans_from, spans_in}
-use Rattle.far_core.specs.state.Spans.{spans_of, is_live, names_place, word_in}
-use Rattle.far_core.specs.state.State.{State, put}
-use Rattle.far_core.proofs.Put.{put_other}
+use Rattle.far_events.specs.state.Spans.{spans_of, is_live, names_place, word_in}
+use Rattle.far_events.specs.state.State.{State, put}
+use Rattle.far_events.proofs.Put.{put_other}
 use Rattle.far_hand.specs.Finds.{Finds, body_of}
 use Rattle.far_evac.specs.AnyHand.{Knows}
 use Rattle.far_evac.specs.Live.{live_in, pointers_of}

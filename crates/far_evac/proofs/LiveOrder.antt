@@ -11,8 +11,8 @@ use Rattle.far_word.specs.Pointer.{read_of}
 use Rattle.far_word.specs.Sizes.{size_of}
 use Rattle.far_log.specs.declared.span.Span.{Span}
 use Rattle.far_log.specs.Spans.{head_len, span_at, spans_from, spans_in}
-use Rattle.far_core.specs.state.Spans.{spans_of, is_live, names_place, word_in}
-use Rattle.far_core.specs.state.State.{State}
+use Rattle.far_events.specs.state.Spans.{spans_of, is_live, names_place, word_in}
+use Rattle.far_events.specs.state.State.{State}
 use Rattle.far_evac.specs.Live.{live_among, live_in, pointers_of}
 use Rattle.far_evac.specs.LiveLaws.{ComesFirst, IsInTurn, IsNearIn, LiveIsInOrder}
 use Rattle.far_evac.specs.RoundSteps.{among}

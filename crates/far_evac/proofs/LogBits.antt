@@ -5,7 +5,7 @@ use Rattle.std.proofs.lemmas.Bool.Decides.{nat_tests}
 use Rattle.std.proofs.lemmas.List.Folds.{list_any-append}
 use Rattle.std.proofs.lemmas.Nat.Bits.{bit_at_set_other, bit_at_set_same}
 use Rattle.far_word.specs.declared.sizes.TheConstants.{MOST_LOGS}
-use Rattle.far_core.specs.events.Advance.{is_among}
+use Rattle.far_events.specs.events.Advance.{is_among}
 use Rattle.far_evac.specs.RoundSteps.{among}
 
 or_no : (b : Bool) → (b || false) ≡ b

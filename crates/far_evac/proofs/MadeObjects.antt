@@ -5,14 +5,14 @@ use Rattle.far_word.specs.declared.pointer.Place.{Place}
 use Rattle.far_word.specs.declared.refused.Refused.{Refused}
 use Rattle.far_word.specs.declared.sizes.TheConstants.{CELLS, LONGEST}
 use Rattle.far_word.specs.Sizes.{size_of}
-use Rattle.far_core.specs.events.Accesses.{with_cell}
-use Rattle.far_core.specs.events.Legal.{IsClosed}
-use Rattle.far_core.specs.events.NewObjects.{made_with}
-use Rattle.far_core.specs.state.Law.{Law}
+use Rattle.far_events.specs.events.Accesses.{with_cell}
+use Rattle.far_events.specs.events.Legal.{IsClosed}
+use Rattle.far_events.specs.events.NewObjects.{made_with}
+use Rattle.far_events.specs.state.Law.{Law}
 use Rattle.far_core.specs.state.Room.{room}
-use Rattle.far_core.specs.state.State.{State}
+use Rattle.far_events.specs.state.State.{State}
 use Rattle.far_core.proofs.NewObjects.{MayMake, adopts_and_writes, cold, law_named, law_over, law_placed, made_cold, may_make, named, named_is, over, over_then, pointer}
-use Rattle.far_core.proofs.Put.{put_same}
+use Rattle.far_events.proofs.Put.{put_same}
 use Rattle.far_book.specs.book.Effects.{placed}
 use Rattle.far_book.proofs.region.MadeObjects.{cold_sealed, written_owned}
 use Rattle.far_book.proofs.region.Owns.{own_law}

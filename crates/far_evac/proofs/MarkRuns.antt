@@ -8,11 +8,11 @@ use Rattle.std.proofs.lemmas.Bool.{true≢false, false≢true}
 use Rattle.std.proofs.lemmas.Bool.Decides.{nat_tests}
 use Rattle.std.proofs.lemmas.List.{take_all}
 use Rattle.far_log.specs.declared.span.Span.{Span}
-use Rattle.far_core.specs.declared.event.Event.TheVariants.{Advance}
-use Rattle.far_core.specs.events.Advance.{is_among}
-use Rattle.far_core.specs.events.Step.{after}
-use Rattle.far_core.specs.state.Law.{Law}
-use Rattle.far_core.specs.state.State.{State}
+use Rattle.far_events.specs.declared.event.Event.TheVariants.{Advance}
+use Rattle.far_events.specs.events.Advance.{is_among}
+use Rattle.far_events.specs.events.Step.{after}
+use Rattle.far_events.specs.state.Law.{Law}
+use Rattle.far_events.specs.state.State.{State}
 use Rattle.far_hand.specs.Known.{Forgets}
 use Rattle.far_hand.specs.Rounds.{MayChoose}
 use Rattle.far_book.specs.book.Effects.{marked}

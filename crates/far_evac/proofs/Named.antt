@@ -6,7 +6,7 @@ use Rattle.std.proofs.lemmas.Bool.Decides.{nat_tests}
 use Rattle.far_word.specs.declared.scope.ScopeWord.TheVariants as scoped
 use Rattle.far_word.specs.declared.sizes.TheConstants.{EPOCH_END}
 use Rattle.far_word.specs.Scope.{scope_of}
-use Rattle.far_core.specs.state.State.{State}
+use Rattle.far_events.specs.state.State.{State}
 use Rattle.far_evac.specs.Laws.{HoldsUpNone, TellsWhoIsOpen, WaitIsNamed}
 use Rattle.far_evac.specs.RoundSteps.{is_clear_now}
 use Rattle.far_evac.specs.Waiting.{first_open, holds_up, polled_at}

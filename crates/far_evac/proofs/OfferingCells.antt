@@ -14,23 +14,23 @@ use Rattle.far_word.specs.Job.{job_of}
 use Rattle.far_word.specs.Pointer.{IsPtr, read_of}
 use Rattle.far_word.specs.Sizes.{size_of}
 use Rattle.far_word.proofs.PointerLaws.{read_back, read_says}
-use Rattle.far_core.specs.declared.event.Event.TheVariants.{Name}
-use Rattle.far_core.specs.declared.naming.Naming.{Naming}
-use Rattle.far_core.specs.declared.naming.Naming.TheVariants.{Places, Retires, Evicts, Stays as staying, Moves as moving, Fetches}
+use Rattle.far_events.specs.declared.event.Event.TheVariants.{Name}
+use Rattle.far_events.specs.declared.naming.Naming.{Naming}
+use Rattle.far_events.specs.declared.naming.Naming.TheVariants.{Places, Retires, Evicts, Stays as staying, Moves as moving, Fetches}
 use Rattle.far_device.specs.Following.{none_of}
-use Rattle.far_core.specs.events.Copied.{copied_job}
-use Rattle.far_core.specs.events.Name.{after_naming}
-use Rattle.far_core.specs.events.Naming.{is_dropped, naming_of, naming_row, no_marks, unmarked}
-use Rattle.far_core.specs.events.namings.Moves.{after_move}
-use Rattle.far_core.specs.events.Step.{after}
-use Rattle.far_core.specs.state.Jobs.{IsGood, job_at, job_said, near_place}
-use Rattle.far_core.specs.state.Law.{Law, head_len}
-use Rattle.far_core.specs.state.Spans.{names_place}
-use Rattle.far_core.specs.state.State.{State, addr, put}
-use Rattle.far_core.proofs.Bounds.{log_inside, span_len}
-use Rattle.far_core.proofs.Guards.{parts}
-use Rattle.far_core.proofs.JobPlaces.{job_bounds}
-use Rattle.far_core.proofs.Put.{put_both, put_other, put_same}
+use Rattle.far_events.specs.events.Copied.{copied_job}
+use Rattle.far_events.specs.events.Name.{after_naming}
+use Rattle.far_events.specs.events.Naming.{is_dropped, naming_of, naming_row, no_marks, unmarked}
+use Rattle.far_events.specs.events.namings.Moves.{after_move}
+use Rattle.far_events.specs.events.Step.{after}
+use Rattle.far_events.specs.state.Jobs.{IsGood, job_at, job_said, near_place}
+use Rattle.far_events.specs.state.Law.{Law, head_len}
+use Rattle.far_events.specs.state.Spans.{names_place}
+use Rattle.far_events.specs.state.State.{State, addr, put}
+use Rattle.far_events.proofs.Bounds.{log_inside, span_len}
+use Rattle.far_events.proofs.Guards.{parts}
+use Rattle.far_events.proofs.JobPlaces.{job_bounds}
+use Rattle.far_events.proofs.Put.{put_both, put_other, put_same}
 use Rattle.far_hand.specs.Finds.{Finds, body_of}
 use Rattle.far_hand.proofs.Finding.{place_found}
 use Rattle.far_book.specs.book.Collecting.{Collects, CollectsKnown, Empties, Fate, GoesAsFound, Names, Stays, fate_in, fate_of, found_so, is_void, made_of, named, named_of}

@@ -8,13 +8,13 @@ use Rattle.far_word.specs.declared.sizes.TheConstants.{JOBS}
 use Rattle.far_word.specs.Job.{job_of}
 use Rattle.far_word.specs.Pointer.{read_of}
 use Rattle.far_log.specs.declared.span.Span.{Span}
-use Rattle.far_core.specs.events.Get.{IsUncopied, IsVacant, is_copied_at, none_copied}
-use Rattle.far_core.specs.state.Jobs.{job_at, job_said}
-use Rattle.far_core.specs.state.Law.{Law}
-use Rattle.far_core.specs.state.Spans.{is_live, spans_of}
-use Rattle.far_core.specs.state.State.{Copying, State}
-use Rattle.far_core.proofs.KeepJobs.{unworded}
-use Rattle.far_core.proofs.events.Get.{copied_at}
+use Rattle.far_events.specs.events.Get.{IsUncopied, IsVacant, is_copied_at, none_copied}
+use Rattle.far_events.specs.state.Jobs.{job_at, job_said}
+use Rattle.far_events.specs.state.Law.{Law}
+use Rattle.far_events.specs.state.Spans.{is_live, spans_of}
+use Rattle.far_events.specs.state.State.{Copying, State}
+use Rattle.far_events.proofs.JobPlaces.{unworded}
+use Rattle.far_events.proofs.events.Get.{copied_at}
 use Rattle.far_book.specs.book.BookOf.{BookOf}
 use Rattle.far_book.specs.book.Own.{own_part}
 use Rattle.far_book.specs.book.Releasing.{order_without, released}

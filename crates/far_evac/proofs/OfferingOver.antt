@@ -2,7 +2,7 @@
 use Rattle.std.proofs.Common.{◌≡◌, ◌≢◌, ◌++◌, ◌⊎◌, ℕ, zero, suc, Bool, true, false, cond, List, [], ◌∷◌, inl, inr, ap, sym, refl, ◌∙◌, subst}
 use Rattle.std.proofs.lemmas.List.{append_assoc, append-nil}
 use Rattle.far_word.specs.declared.refused.Refused.{Refused}
-use Rattle.far_core.specs.state.State.{State}
+use Rattle.far_events.specs.state.State.{State}
 use Rattle.far_book.specs.book.Jobs.{has_job}
 use Rattle.far_evac.specs.AnyHand.{KnowsWalked}
 use Rattle.far_evac.specs.Beside.{At, Before, Behind, Dealing, DealsBeside, End, OverLogs, OverObjects, by_end, freed_if, kept_if, may_free}

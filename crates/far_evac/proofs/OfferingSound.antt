@@ -9,10 +9,10 @@ use Rattle.far_word.specs.declared.pointer.PtrWord.{PtrWord}
 use Rattle.far_word.specs.declared.pointer.PtrWord.TheVariants.{Near}
 use Rattle.far_word.specs.declared.sizes.TheConstants.{MOST_LOGS}
 use Rattle.far_word.specs.Pointer.{read_of}
-use Rattle.far_core.specs.declared.event.Kind.TheVariants.{Sealed}
-use Rattle.far_core.specs.state.Jobs.{job_at}
-use Rattle.far_core.specs.state.Law.{Law}
-use Rattle.far_core.specs.state.State.{State}
+use Rattle.far_events.specs.declared.event.Kind.TheVariants.{Sealed}
+use Rattle.far_events.specs.state.Jobs.{job_at}
+use Rattle.far_events.specs.state.Law.{Law}
+use Rattle.far_events.specs.state.State.{State}
 use Rattle.far_book.specs.book.BookOf.{BookOf}
 use Rattle.far_book.specs.book.Collecting.{Collects, CollectsKnown, Empties, Fate, GoesAsFound, Names, Stays, fate_in, found_so, made_of, named_of}
 use Rattle.far_book.specs.book.Effects.{near_word}

@@ -4,9 +4,9 @@ use Rattle.std.specs.Prelude.{◌⊎◌}
 pub use Rattle.std.proofs.lemmas.Bool.{or_cases as or_split}
 use Rattle.std.proofs.lemmas.Bool.{eqb-true, false≢true}
 use Rattle.std.proofs.lemmas.List.{drop_more, take_all}
-use Rattle.far_core.specs.declared.event.Kind.TheVariants as kinds
-use Rattle.far_core.specs.state.Law.{Law}
-use Rattle.far_core.specs.state.State.{State}
+use Rattle.far_events.specs.declared.event.Kind.TheVariants as kinds
+use Rattle.far_events.specs.state.Law.{Law}
+use Rattle.far_events.specs.state.State.{State}
 use Rattle.far_book.specs.book.Own.{own_part}
 use Rattle.far_book.specs.book.NextLive.{IsBoundary}
 use Rattle.far_evac.specs.declared.phase.Phase.{Phase}

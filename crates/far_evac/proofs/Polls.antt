@@ -5,7 +5,7 @@ use Rattle.std.specs.List.{range_with_len}
 use Rattle.std.proofs.lemmas.Bool.{cond_both, true≢false}
 use Rattle.std.proofs.lemmas.Bool.Decides.{nat_tests}
 use mathlib.Core.Path.{fun_ext}
-use Rattle.far_core.specs.state.State.{State}
+use Rattle.far_events.specs.state.State.{State}
 use Rattle.far_evac.specs.Moment.{Moment}
 use Rattle.far_evac.specs.RoundSteps.{is_clear_now, with_clear_below}
 use Rattle.far_evac.proofs.Bools.{neither}

@@ -10,15 +10,15 @@ use Rattle.far_word.specs.declared.scope.ScopeWord.TheVariants as scoped
 use Rattle.far_word.specs.declared.sizes.TheConstants.{EPOCH_END}
 use Rattle.far_word.specs.Scope.{scope_of}
 use Rattle.far_word.proofs.PointerLaws.{read_says}
-use Rattle.far_core.specs.declared.event.Event.TheVariants.{Advance, Look}
-use Rattle.far_core.specs.declared.event.Kind.{Kind}
-use Rattle.far_core.specs.declared.event.Kind.TheVariants as kinds
-use Rattle.far_core.specs.events.Advance.{is_among}
-use Rattle.far_core.specs.events.Look.{shows_clear}
-use Rattle.far_core.specs.events.Step.{after}
-use Rattle.far_core.specs.state.Law.{Law}
-use Rattle.far_core.specs.state.State.{State}
-use Rattle.far_core.proofs.Put.{put_both}
+use Rattle.far_events.specs.declared.event.Event.TheVariants.{Advance, Look}
+use Rattle.far_events.specs.declared.event.Kind.{Kind}
+use Rattle.far_events.specs.declared.event.Kind.TheVariants as kinds
+use Rattle.far_events.specs.events.Advance.{is_among}
+use Rattle.far_events.specs.events.Look.{shows_clear}
+use Rattle.far_events.specs.events.Step.{after}
+use Rattle.far_events.specs.state.Law.{Law}
+use Rattle.far_events.specs.state.State.{State}
+use Rattle.far_events.proofs.Put.{put_both}
 use Rattle.far_book.specs.book.Own.{own_part}
 use Rattle.far_evac.specs.Laws.{looks}
 use Rattle.far_evac.specs.Moment.{Moment}

@@ -10,11 +10,11 @@ use Rattle.far_word.specs.declared.pointer.PtrWord.{PtrWord}
 use Rattle.far_word.specs.declared.pointer.PtrWord.TheVariants.{Near}
 use Rattle.far_word.specs.Pointer.{read_of}
 use Rattle.far_word.specs.Sizes.{bytes_taken}
-use Rattle.far_core.specs.events.Clear.{is_near}
+use Rattle.far_events.specs.events.Clear.{is_near}
 use Rattle.far_core.specs.laws.Observed.{live_bytes}
-use Rattle.far_core.specs.state.Law.{Law}
-use Rattle.far_core.specs.state.Spans.{names_place}
-use Rattle.far_core.specs.state.State.{State}
+use Rattle.far_events.specs.state.Law.{Law}
+use Rattle.far_events.specs.state.Spans.{names_place}
+use Rattle.far_events.specs.state.State.{State}
 use Rattle.far_core.proofs.Observations.{in_range}
 use Rattle.far_book.specs.book.Own.{own_part}
 use Rattle.far_book.proofs.region.Whole.{near_has_one_live, walks}

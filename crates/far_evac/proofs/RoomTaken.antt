@@ -17,14 +17,14 @@ use Rattle.far_word.specs.Sizes.{bytes_taken}
 use Rattle.far_log.specs.declared.span.Span.{Span}
 use Rattle.far_log.specs.Spans.{Tile, spans_in, taken_by}
 use Rattle.far_log.proofs.Members.{here, none_in, split, there}
-use Rattle.far_core.specs.declared.event.Kind.{Kind}
-use Rattle.far_core.specs.declared.event.Kind.TheVariants as kinds
-use Rattle.far_core.specs.events.Clear.{is_near}
-use Rattle.far_core.specs.events.Naming.{no_marks}
+use Rattle.far_events.specs.declared.event.Kind.{Kind}
+use Rattle.far_events.specs.declared.event.Kind.TheVariants as kinds
+use Rattle.far_events.specs.events.Clear.{is_near}
+use Rattle.far_events.specs.events.Naming.{no_marks}
 use Rattle.far_core.specs.laws.Observed.{live_bytes, span_for}
-use Rattle.far_core.specs.state.Spans.{is_live, names_place, spans_of, word_in}
-use Rattle.far_core.specs.state.State.{State}
-use Rattle.far_core.proofs.Put.{put_both, put_other, put_same}
+use Rattle.far_events.specs.state.Spans.{is_live, names_place, spans_of, word_in}
+use Rattle.far_events.specs.state.State.{State}
+use Rattle.far_events.proofs.Put.{put_both, put_other, put_same}
 use Rattle.far_hand.specs.Finds.{Finds, body_of}
 use Rattle.far_book.specs.book.Releasing.{released}
 use Rattle.far_evac.specs.AnyHand.{Knows}

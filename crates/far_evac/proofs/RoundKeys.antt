@@ -6,8 +6,8 @@ use Rattle.std.specs.List.{AllByRecursion}
 use mathlib.Core.Path.{fun_ext}
 use Rattle.far_word.specs.Pointer.{read_of}
 use Rattle.far_log.specs.declared.span.Span.{Span}
-use Rattle.far_core.specs.state.Spans.{is_live, names_place, spans_of}
-use Rattle.far_core.specs.state.State.{State}
+use Rattle.far_events.specs.state.Spans.{is_live, names_place, spans_of}
+use Rattle.far_events.specs.state.State.{State}
 use Rattle.far_evac.specs.AnyHand.{KnowsMoment}
 use Rattle.far_evac.specs.Asked.{KeepsKeys, first_live}
 use Rattle.far_evac.specs.Live.{live_among, live_in, pointers_of}

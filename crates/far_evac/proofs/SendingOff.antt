@@ -9,12 +9,12 @@ use Rattle.far_word.specs.declared.sizes.TheConstants.{CELLS}
 use Rattle.far_word.specs.Pointer.{IsPtr, read_of}
 use Rattle.far_word.specs.Sizes.{size_of}
 use Rattle.far_word.proofs.PointerLaws.{read_says}
-use Rattle.far_core.specs.events.Naming.{is_dropped, no_marks}
-use Rattle.far_core.specs.state.Law.{Law, is_dirty}
+use Rattle.far_events.specs.events.Naming.{is_dropped, no_marks}
+use Rattle.far_events.specs.state.Law.{Law, is_dirty}
 use Rattle.far_core.specs.state.Room.{room}
-use Rattle.far_core.specs.state.State.{State}
-use Rattle.far_core.proofs.Copied.{NoCopy}
-use Rattle.far_core.proofs.Put.{put_same}
+use Rattle.far_events.specs.state.State.{State}
+use Rattle.far_events.proofs.Copied.{NoCopy}
+use Rattle.far_events.proofs.Put.{put_same}
 use Rattle.far_hand.specs.Finds.{Finds, body_of, marks_in}
 use Rattle.far_book.specs.book.Dealing.{IsRetired, IsSeen, goal, has_evac, moved_now, order_moved, MovedBy}
 use Rattle.far_hand.specs.Quiet.{IsQuietNear}

@@ -2,9 +2,9 @@
 use Rattle.std.proofs.Common.{◌≡◌, ◌≢◌, ℕ, ◌+◌, Bool, true, false, cond, List, [], ◌∷◌, ◌++◌, inl, inr, ap, sym, refl, ◌∙◌, subst}
 use Rattle.std.proofs.lemmas.Bool.{cases_eq}
 use Rattle.far_log.specs.Spans.{spans_in}
-use Rattle.far_core.specs.state.Spans.{spans_of, word_in}
-use Rattle.far_core.specs.state.State.{State}
-use Rattle.far_core.proofs.Put.{put_other, put_same}
+use Rattle.far_events.specs.state.Spans.{spans_of, word_in}
+use Rattle.far_events.specs.state.State.{State}
+use Rattle.far_events.proofs.Put.{put_other, put_same}
 use Rattle.far_book.specs.book.Releasing.{order_without, released}
 use Rattle.far_evac.specs.declared.answers.Progress.{Progress}
 use Rattle.far_evac.specs.declared.phase.Phase.TheVariants.{Evacuating}

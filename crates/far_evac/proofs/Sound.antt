@@ -1,8 +1,8 @@
 -- What leaves true what is true of an evacuator.
 use Rattle.std.proofs.Common.{◌≡◌, ℕ, Bool, List}
-use Rattle.far_core.specs.events.Ranges.{after_events, stores}
-use Rattle.far_core.specs.state.Law.{Law}
-use Rattle.far_core.specs.state.State.{State}
+use Rattle.far_events.specs.events.Ranges.{after_events, stores}
+use Rattle.far_events.specs.state.Law.{Law}
+use Rattle.far_events.specs.state.State.{State}
 use Rattle.far_hand.specs.Others.{OthersChange}
 use Rattle.far_book.specs.book.Own.{own_part}
 use Rattle.far_book.specs.book.SealedLogs.{KeepsSealed}

@@ -13,12 +13,12 @@ use Rattle.far_log.specs.declared.span.Span.{Span}
 use Rattle.far_log.specs.Spans.{Tile, head_len, span_at, spans_from, taken_by}
 use Rattle.far_log.proofs.Members.{here, none_in, split, there}
 use Rattle.far_log.proofs.SpanLaws.{spans_take, tile_bounds}
-use Rattle.far_core.specs.declared.event.Kind.TheVariants as kinds
-use Rattle.far_core.specs.events.Clear.{is_near}
+use Rattle.far_events.specs.declared.event.Kind.TheVariants as kinds
+use Rattle.far_events.specs.events.Clear.{is_near}
 use Rattle.far_core.specs.laws.Observed.{dead_bytes, live_bytes, span_for}
-use Rattle.far_core.specs.state.Spans.{is_live, names_place, spans_of}
-use Rattle.far_core.specs.state.State.{State, put}
-use Rattle.far_core.proofs.Put.{put_both, put_other, put_same}
+use Rattle.far_events.specs.state.Spans.{is_live, names_place, spans_of}
+use Rattle.far_events.specs.state.State.{State, put}
+use Rattle.far_events.proofs.Put.{put_both, put_other, put_same}
 use Rattle.far_book.proofs.region.SpanLists.{taken_more, taken_same, taken_without}
 use Rattle.far_evac.specs.TakesRoom.{bytes_at, bytes_near}
 

@@ -13,18 +13,18 @@ use Rattle.far_word.specs.declared.sizes.TheConstants.{EPOCH_END, LONGEST}
 use Rattle.far_word.specs.Pointer.{IsPtr, read_of}
 use Rattle.far_word.specs.Sizes.{size_of}
 use Rattle.far_word.proofs.PointerLaws.{read_says}
-use Rattle.far_core.specs.declared.event.Kind.{Kind}
-use Rattle.far_core.specs.declared.event.Kind.TheVariants as kinds
-use Rattle.far_core.specs.events.Copies.{data_at}
-use Rattle.far_core.specs.events.Mark.{is_sealed}
-use Rattle.far_core.specs.events.Naming.{is_dropped, no_marks}
-use Rattle.far_core.specs.events.NewSpans.{IsNext, with_span}
+use Rattle.far_events.specs.declared.event.Kind.{Kind}
+use Rattle.far_events.specs.declared.event.Kind.TheVariants as kinds
+use Rattle.far_events.specs.events.Copies.{data_at}
+use Rattle.far_events.specs.events.Mark.{is_sealed}
+use Rattle.far_events.specs.events.Naming.{is_dropped, no_marks}
+use Rattle.far_events.specs.events.NewSpans.{IsNext, with_span}
 use Rattle.far_core.specs.laws.Rooms.{IsRoom, RoomIs}
-use Rattle.far_core.specs.state.Law.{Law}
+use Rattle.far_events.specs.state.Law.{Law}
 use Rattle.far_core.specs.state.Room.{room}
-use Rattle.far_core.specs.state.Jobs.{near_place}
-use Rattle.far_core.specs.state.State.{Copying, State, put}
-use Rattle.far_core.proofs.Put.{put_other, put_same}
+use Rattle.far_events.specs.state.Jobs.{near_place}
+use Rattle.far_events.specs.state.State.{Copying, State, put}
+use Rattle.far_events.proofs.Put.{put_other, put_same}
 use Rattle.far_core.proofs.RoomLaws.{room_right}
 use Rattle.far_book.specs.book.Dealing.{goal, has_evac}
 use Rattle.far_hand.specs.Quiet.{IsQuietNear}

@@ -7,9 +7,9 @@ use Rattle.std.proofs.lemmas.Bool.{true≢false, false≢true}
 use Rattle.far_word.specs.declared.pointer.PtrWord.{PtrWord}
 use Rattle.far_word.specs.declared.pointer.PtrWord.TheVariants.{Free, Near, Far}
 use Rattle.far_word.specs.Pointer.{read_of}
-use Rattle.far_core.specs.events.Clear.{is_near}
-use Rattle.far_core.specs.state.Spans.{names_place}
-use Rattle.far_core.specs.state.State.{State}
+use Rattle.far_events.specs.events.Clear.{is_near}
+use Rattle.far_events.specs.state.Spans.{names_place}
+use Rattle.far_events.specs.state.State.{State}
 use Rattle.far_hand.specs.Finds.{Finds, body_of}
 use Rattle.far_evac.specs.AnyHand.{KnowsWalked, WalksTo}
 use Rattle.far_evac.specs.Dealings.{DealsWith, HasLeft, is_away, is_nowhere, says}

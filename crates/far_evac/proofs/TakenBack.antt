@@ -7,10 +7,10 @@ use Rattle.far_word.specs.declared.job.JobWord.TheVariants.{Empty, Offered, Take
 use Rattle.far_word.specs.declared.sizes.TheConstants.{JOBS}
 use Rattle.far_word.specs.Job.{job_of}
 use Rattle.far_word.specs.Pointer.{read_of}
-use Rattle.far_core.specs.state.Jobs.{job_at, job_said, near_place}
-use Rattle.far_core.specs.state.State.{State, put}
-use Rattle.far_core.proofs.KeepJobs.{unworded}
-use Rattle.far_core.proofs.Put.{put_both}
+use Rattle.far_events.specs.state.Jobs.{job_at, job_said, near_place}
+use Rattle.far_events.specs.state.State.{State, put}
+use Rattle.far_events.proofs.JobPlaces.{unworded}
+use Rattle.far_events.proofs.Put.{put_both}
 use Rattle.far_hand.specs.FindsJob.{FindsJob}
 use Rattle.far_hand.proofs.JobsFound.{same_job}
 use Rattle.far_book.specs.book.Collecting.{BackKnown, TakesBack, taken_back}

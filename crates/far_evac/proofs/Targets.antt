@@ -4,13 +4,13 @@ use Rattle.std.proofs.lemmas.Bool.{false≢true}
 use Rattle.far_word.specs.declared.job.Job.{Job}
 use Rattle.far_word.specs.declared.pointer.Place.{Place}
 use Rattle.far_word.specs.declared.sizes.TheConstants.{LOG_WORDS}
-use Rattle.far_core.specs.events.Copied.{copied_job}
-use Rattle.far_core.specs.state.Jobs.{IsGood, job_at, job_said}
-use Rattle.far_core.specs.state.Law.{Law}
-use Rattle.far_core.specs.state.State.{State, addr}
-use Rattle.far_core.proofs.Copied.{copied_fact}
-use Rattle.far_core.proofs.JobPlaces.{job_bounds}
-use Rattle.far_core.proofs.Put.{put_both, put_other}
+use Rattle.far_events.specs.events.Copied.{copied_job}
+use Rattle.far_events.specs.state.Jobs.{IsGood, job_at, job_said}
+use Rattle.far_events.specs.state.Law.{Law}
+use Rattle.far_events.specs.state.State.{State, addr}
+use Rattle.far_events.proofs.Copied.{copied_fact}
+use Rattle.far_events.proofs.JobPlaces.{job_bounds}
+use Rattle.far_events.proofs.Put.{put_both, put_other}
 use Rattle.far_book.specs.book.Own.{own_part, unread}
 use Rattle.far_book.proofs.region.Untaken.{untaken_said}
 use Rattle.far_book.specs.book.Releasing.{released}

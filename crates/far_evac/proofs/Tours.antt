@@ -9,10 +9,10 @@ use Rattle.far_word.specs.declared.pointer.PtrWord.{PtrWord}
 use Rattle.far_word.specs.declared.sizes.TheConstants.{LOG_WORDS}
 use Rattle.far_word.specs.Pointer.{read_of}
 use Rattle.far_word.specs.Sizes.{size_of}
-use Rattle.far_core.specs.declared.event.Kind.TheVariants as kinds
+use Rattle.far_events.specs.declared.event.Kind.TheVariants as kinds
 use Rattle.far_core.specs.state.Room.{room}
-use Rattle.far_core.specs.state.State.{State}
-use Rattle.far_core.proofs.Put.{put_both, put_other}
+use Rattle.far_events.specs.state.State.{State}
+use Rattle.far_events.proofs.Put.{put_both, put_other}
 use Rattle.far_book.specs.book.Effects.{order_after}
 use Rattle.far_hand.specs.Finds.{Finds, marks_in}
 use Rattle.far_hand.proofs.Finding.{IsNearTo, finds_same, near_found}
@@ -26,7 +26,7 @@ use Rattle.far_evac.specs.Stops.{Stop, Object, End, tour, front, stopped, toured
 use Rattle.far_evac.specs.Walk.{Walked, Way, Drops, Moves, Goes, begun, dealt_first, dealt_so, freed, hot_way, left, passed, settled, walked, way_of}
 use Rattle.far_evac.specs.Ready.{Ready, IsOfRound}
 use Rattle.far_evac.specs.Dealings.{is_away, is_nowhere}
-use Rattle.far_core.specs.events.Clear.{is_near}
+use Rattle.far_events.specs.events.Clear.{is_near}
 use Rattle.far_evac.proofs.Dealt.{Gone, Leaves, gone_dropped, gone_far, gone_moved, leaves_dropped, leaves_far, leaves_moved}
 use Rattle.far_evac.proofs.LiveLists.{live_released}
 use Rattle.far_evac.proofs.LiveOnce.{NearAt, but, but_first, but_none, first_named, near_at, not_there, once_live}

@@ -8,9 +8,9 @@ use Rattle.far_word.specs.declared.refused.Refused.{Refused}
 use Rattle.far_word.specs.declared.sizes.TheConstants.{JOBS}
 use Rattle.far_word.specs.Pointer.{read_of}
 use Rattle.far_word.specs.Sizes.{size_of}
-use Rattle.far_core.specs.events.Get.{none_copied}
+use Rattle.far_events.specs.events.Get.{none_copied}
 use Rattle.far_core.specs.state.Room.{room}
-use Rattle.far_core.specs.state.State.{State}
+use Rattle.far_events.specs.state.State.{State}
 use Rattle.far_device.specs.declared.fault.DeviceFault.{DeviceFault}
 use Rattle.far_device.specs.Following.{other_than}
 use Rattle.far_hand.specs.Finds.{Finds}

@@ -6,8 +6,8 @@ use Rattle.far_word.specs.Pointer.{read_of}
 use Rattle.far_device.specs.declared.fault.DeviceFault.{DeviceFault}
 use Rattle.far_hand.specs.Finds.{Finds}
 use Rattle.far_word.specs.declared.pointer.PtrWord.TheVariants as pointer
-use Rattle.far_core.specs.declared.event.Kind.TheVariants.{Sealed}
-use Rattle.far_core.specs.state.State.{State}
+use Rattle.far_events.specs.declared.event.Kind.TheVariants.{Sealed}
+use Rattle.far_events.specs.state.State.{State}
 use Rattle.far_book.specs.book.BookOf.{BookOf}
 use Rattle.far_book.specs.book.Dealing.{is_failure}
 use Rattle.far_book.specs.book.Effects.{order_after}

@@ -4,9 +4,9 @@ use Rattle.std.specs.Prelude.{◌≡◌, ◌≢◌, ◌⊎◌, ◌<◌, ℕ, Boo
 use Rattle.far_log.specs.declared.row.LogRow.{LogRow}
 use Rattle.far_word.specs.declared.refused.Refused.{Refused}
 use Rattle.far_word.specs.declared.refused.Refused.TheVariants as refusals
-use Rattle.far_core.specs.declared.event.Event.{Event}
-use Rattle.far_core.specs.declared.event.Reply.{Reply}
-use Rattle.far_core.specs.state.State.{State}
+use Rattle.far_events.specs.declared.event.Event.{Event}
+use Rattle.far_events.specs.declared.event.Reply.{Reply}
+use Rattle.far_events.specs.state.State.{State}
 use Rattle.far_device.specs.declared.fault.DeviceFault.{DeviceFault}
 use Rattle.far_device.specs.Following.{Follows, none_of}
 use Rattle.far_hand.specs.Came.{Came, only}

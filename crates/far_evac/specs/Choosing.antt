@@ -1,7 +1,7 @@
 -- How a round begins, and how it is given up.
 use Rattle.std.specs.Prelude.{ℕ, ◌+◌, Bool, ◌==◌, List, [], ◌∷◌, fold}
 use Rattle.far_word.specs.declared.sizes.TheConstants.{EPOCH_END}
-use Rattle.far_core.specs.state.State.{State}
+use Rattle.far_events.specs.state.State.{State}
 use Rattle.far_evac.specs.declared.phase.Phase.TheVariants.{Idle, Marking}
 use Rattle.far_evac.specs.Live.{live_among}
 use Rattle.far_evac.specs.Moment.{Moment}

@@ -1,9 +1,9 @@
 -- What giving back means: a log that is counted as given back is free then, and has no bytes, live or dead.
 use Rattle.std.specs.Prelude.{◌≡◌, ℕ, ◌+◌, zero, false, take, drop}
 use Rattle.std.specs.List.{AllByRecursion}
-use Rattle.far_core.specs.declared.event.Kind.TheVariants.{Free}
+use Rattle.far_events.specs.declared.event.Kind.TheVariants.{Free}
 use Rattle.far_core.specs.laws.Observed.{dead_bytes, live_bytes}
-use Rattle.far_core.specs.state.State.{State}
+use Rattle.far_events.specs.state.State.{State}
 use Rattle.far_evac.specs.AnyHand.{DealsFirst, WalksTo}
 use Rattle.far_evac.specs.Moment.{Moment}
 use Rattle.far_evac.specs.Walk.{Walked, begun}

@@ -1,7 +1,7 @@
 -- An evacuator as its callers see it.
 use Rattle.std.specs.Prelude.{◌≡◌, ℕ, Bool, List}
 use Rattle.far_core.specs.state.CoreState.{core_state}
-use Rattle.far_core.specs.state.State.{State}
+use Rattle.far_events.specs.state.State.{State}
 use Rattle.far_hand.specs.declared.plain.Plain.{Plain}
 use Rattle.far_book.specs.book.BookOf.{BookOf}
 use Rattle.far_evac.specs.declared.phase.Phase.{Phase}

@@ -8,14 +8,14 @@ use Rattle.far_word.specs.Pointer.{read_of, without_evac}
 use Rattle.far_book.specs.book.Dealing.{has_evac}
 use Rattle.far_word.specs.declared.scope.ScopeWord.TheVariants.{Closed, Open}
 use Rattle.far_word.specs.Scope.{scope_of}
-use Rattle.far_core.specs.declared.event.Event.TheVariants.{Advance, Look}
-use Rattle.far_core.specs.events.Advance.{is_among}
-use Rattle.far_core.specs.events.Look.{shows_clear}
-use Rattle.far_core.specs.events.Step.{after}
-use Rattle.far_core.specs.state.Law.{Law}
+use Rattle.far_events.specs.declared.event.Event.TheVariants.{Advance, Look}
+use Rattle.far_events.specs.events.Advance.{is_among}
+use Rattle.far_events.specs.events.Look.{shows_clear}
+use Rattle.far_events.specs.events.Step.{after}
+use Rattle.far_events.specs.state.Law.{Law}
 use Rattle.far_book.specs.book.Own.{own_part}
-use Rattle.far_core.specs.events.Naming.{is_dropped}
-use Rattle.far_core.specs.state.State.{State}
+use Rattle.far_events.specs.events.Naming.{is_dropped}
+use Rattle.far_events.specs.state.State.{State}
 use Rattle.far_book.specs.declared.home.Home.{Home}
 use Rattle.far_book.specs.book.Home.{home_of}
 use Rattle.far_evac.specs.Census.{homes_of}

@@ -1,7 +1,7 @@
 -- Each call of a round leads from a heap to the next by legal events of the core, and keeps what is true between two calls.
 use Rattle.std.specs.Prelude.{◌≡◌, ℕ, true, false, List, eqb, map}
 use Rattle.std.specs.List.{IsDistinct}
-use Rattle.far_core.specs.state.Law.{Law}
+use Rattle.far_events.specs.state.Law.{Law}
 use Rattle.far_policy.specs.Choice.{IsChoice}
 use Rattle.far_book.specs.book.Reached.{Reached}
 use Rattle.far_book.specs.book.Rows.{row_of}

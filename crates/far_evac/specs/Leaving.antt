@@ -6,8 +6,8 @@ use Rattle.far_word.specs.declared.pointer.PtrWord.TheVariants as pointer
 use Rattle.far_word.specs.declared.pointer.PtrWord.TheVariants.{Free, Near}
 use Rattle.far_word.specs.Pointer.{read_of}
 use Rattle.far_device.specs.declared.fault.DeviceFault.{DeviceFault}
-use Rattle.far_core.specs.events.Naming.{is_dropped}
-use Rattle.far_core.specs.state.State.{State}
+use Rattle.far_events.specs.events.Naming.{is_dropped}
+use Rattle.far_events.specs.state.State.{State}
 use Rattle.far_hand.specs.Finds.{Finds}
 use Rattle.far_book.specs.book.Effects.{evicted, moved, order_after, with_free_cell}
 use Rattle.far_evac.specs.declared.answers.Progress.{Progress}

@@ -3,10 +3,10 @@ use Rattle.std.specs.Prelude.{◌≡◌, ◌↔◌, ℕ, ◌<◌, true, false, S
 use Rattle.std.specs.List.{AllByRecursion, range_with_len}
 use Rattle.far_word.specs.declared.pointer.PtrWord.TheVariants as pointer
 use Rattle.far_word.specs.Pointer.{read_of}
-use Rattle.far_core.specs.declared.event.Kind.TheVariants as kinds
+use Rattle.far_events.specs.declared.event.Kind.TheVariants as kinds
 use Rattle.far_core.specs.laws.Observed.{dead_bytes, live_bytes, unused_bytes}
-use Rattle.far_core.specs.state.Law.{Law}
-use Rattle.far_core.specs.state.State.{State}
+use Rattle.far_events.specs.state.Law.{Law}
+use Rattle.far_events.specs.state.State.{State}
 use Rattle.far_book.specs.book.Own.{own_part}
 use Rattle.far_book.specs.declared.home.Home.{Home}
 use Rattle.far_book.specs.declared.home.Home.TheVariants.{Near, Far}

@@ -3,8 +3,8 @@ use Rattle.std.specs.Prelude.{ℕ, Bool, true, false, not, List, [], ◌∷◌, 
 use Rattle.std.specs.List.{flat_map}
 use Rattle.far_word.specs.Pointer.{read_of}
 use Rattle.far_log.specs.declared.span.Span.{Span}
-use Rattle.far_core.specs.state.Spans.{spans_of, is_live}
-use Rattle.far_core.specs.state.State.{State}
+use Rattle.far_events.specs.state.Spans.{spans_of, is_live}
+use Rattle.far_events.specs.state.State.{State}
 use Rattle.far_book.specs.book.Dealing.{has_evac}
 
 -- the pointers that some spans name

@@ -1,6 +1,6 @@
 -- Marking: the live objects of the chosen logs get EVAC; where none is left, the epoch rises.
 use Rattle.std.specs.Prelude.{ℕ, ◌+◌, Bool, nat_lt, Option, Some, None, List, length, take, fold, if◌then◌else◌}
-use Rattle.far_core.specs.state.State.{State}
+use Rattle.far_events.specs.state.State.{State}
 use Rattle.far_book.specs.book.Effects.{marked}
 use Rattle.far_evac.specs.declared.phase.Phase.TheVariants.{Waiting}
 use Rattle.far_evac.specs.Live.{lacking}

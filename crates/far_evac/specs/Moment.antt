@@ -1,7 +1,7 @@
 -- A heap between two calls of the evacuator, and what a call has done so far.
 use Rattle.std.specs.Prelude.{ℕ, Bool, ◌+◌, ◌==◌, if◌then◌else◌, List, [], ◌∷◌, ◌++◌}
 use Rattle.far_word.specs.declared.pointer.Place.{Place}
-use Rattle.far_core.specs.state.State.{State}
+use Rattle.far_events.specs.state.State.{State}
 use Rattle.far_book.specs.book.Effects.{order_after}
 use Rattle.far_book.specs.book.Releasing.{order_without, released}
 use Rattle.far_evac.specs.declared.answers.Progress.{Progress}

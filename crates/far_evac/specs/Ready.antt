@@ -6,9 +6,9 @@ use Rattle.far_word.specs.declared.pointer.Place.{Place}
 use Rattle.far_word.specs.declared.pointer.PtrWord.TheVariants.{Near}
 use Rattle.far_word.specs.declared.sizes.TheConstants.{LOG_WORDS, MOST_LOGS}
 use Rattle.far_word.specs.Pointer.{IsPtr, read_of}
-use Rattle.far_core.specs.declared.event.Kind.TheVariants.{Open, Sealed}
-use Rattle.far_core.specs.events.Naming.{no_marks}
-use Rattle.far_core.specs.state.State.{State}
+use Rattle.far_events.specs.declared.event.Kind.TheVariants.{Open, Sealed}
+use Rattle.far_events.specs.events.Naming.{no_marks}
+use Rattle.far_events.specs.state.State.{State}
 
 -- each object that lies in a log has EVAC
 abbrev pub AllMarked : State → ℕ → Type 0

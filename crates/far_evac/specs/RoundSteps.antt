@@ -1,9 +1,9 @@
 -- What the steps of a round make of a state.
 use Rattle.std.specs.Prelude.{ℕ, ◌+◌, ◌/◌, Bool, false, eqb, ◌==◌, ◌||◌, nat_lt, nat_le, List}
 use Rattle.std.specs.List.{list_any}
-use Rattle.far_core.specs.declared.event.Event.TheVariants.{Clear}
-use Rattle.far_core.specs.events.Step.{after}
-use Rattle.far_core.specs.state.State.{State}
+use Rattle.far_events.specs.declared.event.Event.TheVariants.{Clear}
+use Rattle.far_events.specs.events.Step.{after}
+use Rattle.far_events.specs.state.State.{State}
 
 -- a log is one of these
 abbrev pub among : List ℕ → ℕ → Bool

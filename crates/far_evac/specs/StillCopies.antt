@@ -2,8 +2,8 @@
 use Rattle.std.specs.Prelude.{◌≡◌, ℕ, Some}
 use Rattle.far_word.specs.declared.job.Job.{Job}
 use Rattle.far_word.specs.Pointer.{read_of}
-use Rattle.far_core.specs.state.Jobs.{IsGood, job_at, near_place}
-use Rattle.far_core.specs.state.State.{State}
+use Rattle.far_events.specs.state.Jobs.{IsGood, job_at, near_place}
+use Rattle.far_events.specs.state.State.{State}
 
 -- a job isn't empty, the round of its offer lasts, its source's log is in it still, and its pointer's cell names the source
 pub record StillCopies (s : State) (j : ℕ) (job : Job) : Type 0 where

@@ -6,12 +6,12 @@ use Rattle.far_word.specs.declared.pointer.PtrWord.TheVariants.{Free, Near, Far}
 use Rattle.far_word.specs.declared.sizes.TheConstants.{LOG_BYTES}
 use Rattle.far_word.specs.Pointer.{read_of}
 use Rattle.far_word.specs.Sizes.{bytes_taken}
-use Rattle.far_core.specs.declared.event.Kind.TheVariants as kinds
-use Rattle.far_core.specs.events.Clear.{is_near}
-use Rattle.far_core.specs.events.Naming.{no_marks}
+use Rattle.far_events.specs.declared.event.Kind.TheVariants as kinds
+use Rattle.far_events.specs.events.Clear.{is_near}
+use Rattle.far_events.specs.events.Naming.{no_marks}
 use Rattle.far_core.specs.laws.Observed.{dead_bytes, live_bytes, unused_bytes}
-use Rattle.far_core.specs.state.Law.{Law}
-use Rattle.far_core.specs.state.State.{State}
+use Rattle.far_events.specs.state.Law.{Law}
+use Rattle.far_events.specs.state.State.{State}
 use Rattle.far_book.specs.book.Own.{own_part}
 use Rattle.far_evac.specs.declared.answers.Progress.{Progress}
 use Rattle.far_evac.specs.declared.answers.RoundEnd.{RoundEnd}

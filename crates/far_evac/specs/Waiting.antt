@@ -1,9 +1,9 @@
 -- Waiting: the owners' scopes are looked at in order, up to the first that is open from before the round.
 use Rattle.std.specs.Prelude.{◌≡◌, ℕ, ◌+◌, ◌*◌, ◌/◌, ◌<◌, Bool, false, not, ◌||◌, Option, Some, None, find}
 use Rattle.std.specs.List.{range_with_len}
-use Rattle.far_core.specs.declared.event.Event.{Event}
-use Rattle.far_core.specs.declared.event.Event.TheVariants.{Look}
-use Rattle.far_core.specs.state.State.{State}
+use Rattle.far_events.specs.declared.event.Event.{Event}
+use Rattle.far_events.specs.declared.event.Event.TheVariants.{Look}
+use Rattle.far_events.specs.state.State.{State}
 use Rattle.far_evac.specs.declared.answers.Polled.{Polled}
 use Rattle.far_evac.specs.declared.answers.Polled.TheVariants.{Clear, StillOpen}
 use Rattle.far_evac.specs.declared.phase.Phase.TheVariants.{Evacuating}

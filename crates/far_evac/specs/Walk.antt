@@ -6,7 +6,7 @@ use Rattle.far_word.specs.declared.pointer.PtrWord.TheVariants.{Free, Near, Far}
 use Rattle.far_word.specs.Pointer.{read_of}
 use Rattle.far_word.specs.Sizes.{size_of}
 use Rattle.far_core.specs.state.Room.{room}
-use Rattle.far_core.specs.state.State.{State}
+use Rattle.far_events.specs.state.State.{State}
 use Rattle.far_book.specs.book.Effects.{moved, evicted, with_free_cell}
 use Rattle.far_evac.specs.declared.phase.Phase.TheVariants.{Idle}
 use Rattle.far_evac.specs.Live.{live_in, live_among, is_empty}

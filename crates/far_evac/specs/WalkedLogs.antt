@@ -1,7 +1,7 @@
 -- What walking over some logs leaves of a round, where copies may be offered.
 use Rattle.std.specs.Prelude.{◌≡◌, ℕ, true, cond, List, eqb}
 use Rattle.std.specs.List.{IsDistinct}
-use Rattle.far_core.specs.state.State.{State}
+use Rattle.far_events.specs.state.State.{State}
 use Rattle.far_evac.specs.declared.phase.Phase.TheVariants.{Idle, Evacuating}
 use Rattle.far_evac.specs.declared.round.Round.{Round}
 use Rattle.far_evac.specs.BookStands.{IsChosen}

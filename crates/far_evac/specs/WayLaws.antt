@@ -5,9 +5,9 @@ use Rattle.far_word.specs.declared.pointer.Place.{Place}
 use Rattle.far_word.specs.declared.pointer.PtrWord.TheVariants.{Near, Far}
 use Rattle.far_word.specs.Pointer.{read_of}
 use Rattle.far_word.specs.Sizes.{size_of}
-use Rattle.far_core.specs.events.Naming.{no_marks, unmarked}
+use Rattle.far_events.specs.events.Naming.{no_marks, unmarked}
 use Rattle.far_core.specs.state.Room.{room}
-use Rattle.far_core.specs.state.State.{State}
+use Rattle.far_events.specs.state.State.{State}
 use Rattle.far_book.specs.book.Jobs.{has_job}
 use Rattle.far_book.specs.book.Offering.{IsLowestEmpty, NoneEmpty, offered}
 use Rattle.far_evac.specs.AnyHand.{KnowsWalked}

@@ -1,8 +1,8 @@
 //! The evacuator: a book, and the round that empties some of its logs.
 
 ghost use Rattle.std.specs.Prelude.{◌≡◌, ℕ, [], false, true};
-ghost use Rattle.far_core.specs.state.Law.{Law};
-ghost use Rattle.far_core.specs.state.State.{State};
+ghost use Rattle.far_events.specs.state.Law.{Law};
+ghost use Rattle.far_events.specs.state.State.{State};
 ghost use Rattle.far_hand.specs.MayBe.{NoneViews, ViewsNone};
 ghost use Rattle.far_book.specs.book.Own.{HasNoJob, own_part};
 ghost use Rattle.far_evac.specs.declared.phase.Phase.TheVariants.{Evacuating, Idle};

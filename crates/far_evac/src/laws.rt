@@ -212,8 +212,11 @@ pub fn callers_keep_order()
 /// that began without a round also before, when a round that was given up may have left logs there in which nothing lies. So it stays, over any hand, through each
 /// call of a round, turns and whole rounds, and through what callers do between two of them.
 pub fn none_strays()
+    // no object strays where the core has no round, nor once the epoch has risen
     ensures start { NoRoundStraysNone }
     ensures risen { RisenStraysNone }
+
+    // nor through a call of a round, turns or a whole round, of a heap that nobody else steps
     ensures selecting { SelectingStraysNone }
     ensures marking { MarkingStraysNone }
     ensures polling { PollingStraysNone }
@@ -221,10 +224,15 @@ pub fn none_strays()
     ensures aborting { AbortingStraysNone }
     ensures turns { TurnsStrayNone }
     ensures whole { RoundStraysNone }
+
+    // nor over any hand: through marks that are found, a round's calls, turns, and whole rounds
     ensures found { FoundStrayNone }
     ensures calls { CallsStrayNone }
     ensures rows { RowsStrayNone }
     ensures rounds { RoundsStrayNone }
+
+    // nor between two rounds, whatever brings no object to a log of the round: any row of such changes, all that owners do, and events that
+    // leave the epoch
     ensures callers { CallersStrayNone }
     ensures joined { ComersJoin }
     ensures owners { OwnersBringNone }
@@ -234,21 +242,34 @@ pub fn none_strays()
 /// Worked examples: whole lists of calls on a heap that nobody else steps, and what they answer. The calls of these lists begin a round, and are refused, as the
 /// contracts of the calls themselves say.
 pub fn rounds_are_so()
+    // these lists' calls begin a round, and are refused, as the evacuator's own
     ensures as_called { AsCalled }
+
+    // the last free log is kept for moves; in a round a hot object moves and a cold one goes far, and both are read afterwards
     ensures reserve_is_kept { ReserveIsKept }
     ensures plain_round { PlainRound }
+
+    // open scopes are waited for, and view what they viewed, but no marked object anew; an owner may move its objects first, and a hot one goes
+    // far where no log is free
     ensures open_scope_is_waited_for { OpenScopeIsWaitedFor }
     ensures old_epoch { OldEpoch }
     ensures old_view { OldView }
     ensures owner_is_first { OwnerIsFirst }
     ensures hot_without_room { HotWithoutRoom }
+
+    // a round's calls belong to their phases; none begins at the last epoch or without a sealed log, a log that was opened anew isn't emptied again, and
+    // a round stands where its turns ran out
     ensures phases_are_kept { PhasesAreKept }
     ensures last_epoch { LastEpoch }
     ensures opened_anew { OpenedAnew }
     ensures turns_run_out { TurnsRunOut }
     ensures nothing_to_choose { NothingToChoose }
+
+    // one object at a time, a log comes back once the walk has passed it; what a round has marked that was given up is unmarked
     ensures step_by_step { StepByStep }
     ensures given_up { GivenUp }
+
+    // objects leave in the order in which they lie, logs as the policy chooses, the oldest or the emptiest first; epochs are named as they are
     ensures first_lies_first { FirstLiesFirst }
     ensures oldest_is_first { OldestIsFirst }
     ensures epochs_are_named { EpochsAreNamed }
@@ -268,16 +289,23 @@ pub fn copied_comes_back()
 
 /// Worked examples where copies may be offered: copiers' events stand in the lists too.
 pub fn copies_are_so()
+    // a hot object's copy is offered, once, and its object named to it when it's finished, unless its owner was first; without room it goes far
     ensures copier_by_hand { CopierByHand }
     ensures owner_first { OwnerFirst }
     ensures one_at_a_time { OneAtATime }
     ensures no_room { NoRoomForCopies }
+
+    // a log that a job holds doesn't hold up those behind it; clean objects are copied too, and objects that have a job are passed over
     ensures others_go_on { OtherLogsGoOn }
     ensures clean { CleanIsOffered }
     ensures passes_on { PassesOnAtNone }
+
+    // a dropped object is never named to a copy: it is retired, once no copier has its job
     ensures dropped { DroppedIsRetired }
     ensures passed_over { DroppedIsPassedOver }
     ensures dropped_meanwhile { DroppedMeanwhile }
+
+    // a round that is given up takes its offers back; 16 are offered at most; each log in which nothing lies any more comes back
     ensures taken_back { OffersAreTakenBack }
     ensures no_job { NoJobIsEmpty }
     ensures each_log { EachLogComesBack }

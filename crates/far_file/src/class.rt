@@ -48,6 +48,7 @@ impl Class {
         ensures free { IfOk result (λ slot. IsFree (slice_get self.old.owners.items slot)) }
         ensures own { IfOk result (λ slot. slice_get self.new.owners.items slot ≡ Some key) }
         ensures low { IfOk result (λ slot. slot < SLOTS) }
+        ensures rest { IfOk result (KeepsSlotsBut (slice_get self.old.owners.items) (slice_get self.new.owners.items)) }
         ensures refused { OnErr result (self.new.owners.items ≡ self.old.owners.items) }
         ensures out { IfErr result (IsOut (AreOwned (slice_get self.new.owners.items)) ⊥) }
     {
@@ -70,6 +71,7 @@ impl Class {
         ensures free { IfOk result (λ slot. IsFree (slice_get self.old.owners.items slot)) }
         ensures own { IfOk result (λ slot. slice_get self.new.owners.items slot ≡ Some key) }
         ensures low { IfOk result (λ slot. slot < SLOTS) }
+        ensures rest { IfOk result (KeepsSlotsBut (slice_get self.old.owners.items) (slice_get self.new.owners.items)) }
         ensures refused { OnErr result (self.new.owners.items ≡ self.old.owners.items) }
         ensures out { IfErr result (IsOut (AreOwned (slice_get self.new.owners.items)) ⊥) }
     {
@@ -94,6 +96,7 @@ impl Class {
         ensures free { IfOk result (λ slot. IsFree (slice_get self.old.owners.items slot)) }
         ensures own { IfOk result (λ slot. slice_get self.new.owners.items slot ≡ Some key) }
         ensures low { IfOk result (λ slot. slot < SLOTS) }
+        ensures rest { IfOk result (KeepsSlotsBut (slice_get self.old.owners.items) (slice_get self.new.owners.items)) }
         ensures refused { OnErr result (self.new.owners.items ≡ self.old.owners.items) }
         ensures out { IfErr result (IsOut (AreOwned (slice_get self.new.owners.items)) ⊥) }
     {

@@ -1,6 +1,6 @@
 //! The slots of a device, and the extents on which they are.
 
-ghost use Rattle.std.specs.Prelude.{ℕ, ◌≡◌, ◌<◌, ◌≤◌, ◌+◌, ◌^◌, true, false, slice_index, Some, IfOk, IfErr, IfSome, IfNone, IsTrue, OnOk};
+ghost use Rattle.std.specs.Prelude.{ℕ, ◌≡◌, ◌<◌, ◌≤◌, ◌+◌, ◌^◌, true, false, slice_index, Some, IfOk, IfErr, IfSome, IfNone, IsTrue, OnErr, OnOk};
 ghost use Rattle.std.specs.Vec.{vec_len};
 ghost use Rattle.far_file.specs.Free.{AreOwned, IsFree, KeepsOwned, KeepsOwnedBut};
 ghost use Rattle.far_file.specs.Where.{AreApart, HasExtent, KeepsExtents, page_in, slot_at};
@@ -48,15 +48,25 @@ impl Room {
     }
 
     /// Gives a free slot to a key, on a page that has an extent.
+    #[tactic(auto, using(crate::proofs::Lost::taken_back, crate::proofs::Lost::as_before))]
     pub(crate) fn take(&mut self, class: usize, key: u16) -> Result<u16, Want>
+        // a size of slots, and a key
         requires class { class < CLASSES }
         requires key { key < KEYS }
+
+        // no other slot goes to another key, and pages keep their extents
         ensures owned { KeepsOwned (owner_in self.old.classes) (owner_in self.new.classes) }
+        ensures rest { IfOk result (KeepsOwnedBut (owner_in self.old.classes) (owner_in self.new.classes) class) }
         ensures extents { KeepsExtents self.old.extents.items self.new.extents.items }
+
+        // done: a slot that nobody had is the key's, on a page that has an extent
         ensures free { IfOk result (λ slot. IsFree (owner_in self.old.classes class slot)) }
         ensures own { IfOk result (λ slot. owner_in self.new.classes class slot ≡ Some key) }
         ensures low { IfOk result (λ slot. slot < SLOTS) }
         ensures there { IfOk result (λ slot. HasExtent self.new.extents.items (page_in class slot)) }
+
+        // refused: no key has a slot more; for want of memory, or as all slots are taken, or as the storage has no more extents
+        ensures left { OnErr result (KeepsOwned (owner_in self.new.classes) (owner_in self.old.classes)) }
         ensures out { IfErr result (IsOut (AreOwned (owner_in self.new.classes class)) (HasNoMore self.new.below self.new.shared)) }
     {
         let slot = match self.pick(class, key) {
@@ -74,13 +84,22 @@ impl Room {
 
     // Gives a free slot to a key.
     fn pick(&mut self, class: usize, key: u16) -> Result<u16, Want>
+        // a size of slots, and a key
         requires class { class < CLASSES }
         requires key { key < KEYS }
+
+        // no other slot goes to another key, and extents stay
         ensures owned { KeepsOwned (owner_in self.old.classes) (owner_in self.new.classes) }
+        ensures rest { IfOk result (KeepsOwnedBut (owner_in self.old.classes) (owner_in self.new.classes) class) }
+        ensures extents { self.new.extents ≡ self.old.extents }
+
+        // done: a slot that nobody had is the key's
         ensures free { IfOk result (λ slot. IsFree (owner_in self.old.classes class slot)) }
         ensures own { IfOk result (λ slot. owner_in self.new.classes class slot ≡ Some key) }
         ensures low { IfOk result (λ slot. slot < SLOTS) }
-        ensures extents { self.new.extents ≡ self.old.extents }
+
+        // refused: each slot is whose it was; for want of memory, or as all slots are taken
+        ensures left { OnErr result ((c s : ℕ) → owner_in self.new.classes c s ≡ owner_in self.old.classes c s) }
         ensures out { IfErr result (IsOut (AreOwned (owner_in self.new.classes class)) ⊥) }
     {
         self.classes[class].take(key)

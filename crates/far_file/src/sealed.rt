@@ -12,7 +12,7 @@ ghost use Rattle.far_file.specs.Positions.{HoldsAt};
 ghost use Rattle.far_file.specs.Owning.{owner_in};
 ghost use Rattle.far_file.specs.Entry.{len_in, slot_in};
 ghost use Rattle.far_file.specs.Row.{bytes_of, entry_in, known, AreKept, IsKept, IsUnused, KeepsEntries};
-ghost use Rattle.far_file.specs.Free.{AreOwned, IsFree};
+ghost use Rattle.far_file.specs.Free.{AreOwned, IsFree, KeepsOwned, KeepsOwnedBut};
 ghost use Rattle.far_file.specs.Where.{class_in, page_in, scale, slot_at, HasExtent};
 
 use crate::class::Want;
@@ -196,12 +196,17 @@ impl<F: Storage + Drop, L: Seal> SealedDevice<F, L> {
 
     // Sets what is known of a key, and lets go of the slot that it had.
     fn set(&mut self, id: u32, held: Held<L>)
+        // a key in the row; what is to be known of it lies in a slot of its own that no key uses yet
         requires row { id < vec_len self.old.row }
         requires kept { IfSome (known held) (IsKept (F.Storage.seen self.old.storage) (F.Storage.honest self.old.storage) (owner_in self.old.room.classes) self.old.room.extents.items id) }
         requires unused { IfSome (known held) (λ held. IsUnused (entry_in self.old.row.items) (class_in (len_in held)) (slot_in held)) }
+
+        // that is known of the key then, the slot that it had is free, and other keys have their bytes
         ensures set { entry_in self.new.row.items id ≡ known held }
-        ensures others { KeepsOthers (bytes_at self.old) (bytes_at self.new) id }
         ensures freed { IfSome (entry_in self.old.row.items id) (λ held. IsFree (owner_in self.new.room.classes (class_in (len_in held)) (slot_in held))) }
+        ensures others { KeepsOthers (bytes_at self.old) (bytes_at self.new) id }
+
+        // nothing else has changed: extents, the storage, how long the row is, what was kept and told
         ensures extents { self.new.room.extents ≡ self.old.room.extents }
         ensures storage { self.new.storage ≡ self.old.storage }
         ensures row { vec_len self.new.row ≡ vec_len self.old.row }
@@ -232,14 +237,23 @@ impl<F: Storage + Drop, L: Seal> SealedDevice<F, L> {
 
     // Gives a key a free slot, beside one that it may have.
     fn take(&mut self, class: usize, id: u32) -> Result<u16, Want>
+        // a size of slots, and a key
         requires class { class < CLASSES }
         requires key { id < KEYS }
-        ensures row { self.new.row ≡ self.old.row }
+
+        // done: a slot of the key's that no key uses, on a page that has an extent; no other slot goes to another key
         ensures unused { IfOk result (λ slot. IsUnused (entry_in self.new.row.items) class slot) }
         ensures own { IfOk result (λ slot. owner_in self.new.room.classes class slot ≡ Some id) }
         ensures low { IfOk result (λ slot. slot < SLOTS) }
         ensures there { IfOk result (λ slot. HasExtent self.new.room.extents.items (page_in class slot)) }
+        ensures rest { IfOk result (KeepsOwnedBut (owner_in self.old.room.classes) (owner_in self.new.room.classes) class) }
+
+        // refused: no key has a slot more; for want of memory, or as all slots are taken, or as the storage has no more extents
+        ensures left { OnErr result (KeepsOwned (owner_in self.new.room.classes) (owner_in self.old.room.classes)) }
         ensures out { IfErr result (IsOut (AreOwned (owner_in self.new.room.classes class)) (HasNoMore self.new.room.below self.new.room.shared)) }
+
+        // nothing else has changed: the row, the storage, what was kept and told
+        ensures row { self.new.row ≡ self.old.row }
         ensures storage { self.new.storage ≡ self.old.storage }
         ensures last { self.new.last ≡ self.old.last }
         ensures faults { faults_of self.new ≡ faults_of self.old }
@@ -250,14 +264,19 @@ impl<F: Storage + Drop, L: Seal> SealedDevice<F, L> {
 
     // Puts bytes into a slot that no key uses.
     fn put(&mut self, class: usize, slot: u16, bytes: &[u8]) -> Result<(), StorageFault>
+        // a slot that no key uses, with an extent, and bytes that fit in it
         requires class { class < CLASSES }
         requires low { slot < SLOTS }
         requires few { length bytes.now ≤ 64 * scale class }
         requires unused { IsUnused (entry_in self.old.row.items) class slot }
         requires there { HasExtent self.old.room.extents.items (page_in class slot) }
+
+        // one call of the storage was made, which tells whether it is done; then the bytes are there, if the storage is honest
         ensures called { F.Storage.puts self.old.storage (slot_at self.old.room.extents.items class slot) bytes.now result self.new.storage }
         ensures put { F.Storage.honest self.old.storage ≡ true → OnOk result (HoldsAt (F.Storage.seen self.new.storage) (slot_at self.old.room.extents.items class slot) bytes.now) }
         ensures honest { F.Storage.honest self.new.storage ≡ F.Storage.honest self.old.storage }
+
+        // nothing else has changed: the row, slots and extents, what was kept and told
         ensures row { self.new.row ≡ self.old.row }
         ensures room { self.new.room ≡ self.old.room }
         ensures last { self.new.last ≡ self.old.last }
@@ -269,20 +288,27 @@ impl<F: Storage + Drop, L: Seal> SealedDevice<F, L> {
 
     // Notes that the bytes that were written last are under a key, in a slot of its own, and lets go of the slot that it had.
     fn note(&mut self, id: u32, len: u16, slot: u16, seal: L)
+        // a key in the row, and the bytes that were written last, with their length and seal
         requires row { id < vec_len self.old.row }
         requires key { id < KEYS }
         requires len { length self.old.last.items ≡ len }
         requires few { len ≤ SLOT }
-        requires low { slot < SLOTS }
         requires sealed { L.Seal.kept seal ≡ L.Seal.digest self.old.last.items }
+
+        // they lie in a slot of the key's own that no key uses yet
+        requires low { slot < SLOTS }
         requires own { owner_in self.old.room.classes (class_in len) slot ≡ Some id }
         requires unused { IsUnused (entry_in self.old.row.items) (class_in len) slot }
         requires there { HasExtent self.old.room.extents.items (page_in (class_in len) slot) }
         requires put { F.Storage.honest self.old.storage ≡ true → HoldsAt (F.Storage.seen self.old.storage) (slot_at self.old.room.extents.items (class_in len) slot) self.old.last.items }
+
+        // they are under the key then, in that slot; the one that it had is free, and other keys have their bytes
         ensures set { bytes_at self.new id ≡ Some self.old.last.items }
         ensures place { place_at self.new id ≡ slot_at self.old.room.extents.items (class_in len) slot }
-        ensures others { KeepsOthers (bytes_at self.old) (bytes_at self.new) id }
         ensures freed { IfSome (entry_in self.old.row.items id) (λ held. IsFree (owner_in self.new.room.classes (class_in (len_in held)) (slot_in held))) }
+        ensures others { KeepsOthers (bytes_at self.old) (bytes_at self.new) id }
+
+        // nothing else has changed: the storage, what was told
         ensures storage { self.new.storage ≡ self.old.storage }
         ensures faults { faults_of self.new ≡ faults_of self.old }
         ensures told { self.new.told ≡ self.old.told }
@@ -299,6 +325,7 @@ impl<F: Storage + Drop, L: Seal> SealedDevice<F, L> {
         requires unused { IsUnused (entry_in self.old.row.items) class slot }
         ensures row { self.new.row ≡ self.old.row }
         ensures freed { IsFree (owner_in self.new.room.classes class slot) }
+        ensures others { KeepsOwnedBut (owner_in self.old.room.classes) (owner_in self.new.room.classes) class slot }
         ensures storage { self.new.storage ≡ self.old.storage }
         ensures faults { faults_of self.new ≡ faults_of self.old }
         ensures told { self.new.told ≡ self.old.told }
@@ -367,18 +394,27 @@ impl<F: Storage + Drop, L: Seal> Device for SealedDevice<F, L> {
 
     ghost forget_follows = { forget_leaves };
 
-    /// After any fault all is as it was: the bytes go to a free slot, and the key's own is let go of once they are there. A write that succeeds makes one call
+    /// After any fault all is as it was, and no key has a slot more: the bytes go to a free slot, and the key's own is let go of once they are there. A write that succeeds makes one call
     /// of the storage; one that is refused memory, or has no slot, makes none.
+    #[tactic(auto, using(crate::proofs::Lost::taken_back, crate::proofs::Lost::as_before))]
     fn write(&mut self, id: u32, bytes: &[u8]) -> Result<(), DeviceFault>
+        // done: the bytes are under the key, one call of the storage put them where they lie, and the slot that it had is free
         ensures set { OnOk result (bytes_at self.new id ≡ Some bytes.now) }
+        ensures called { IfOk result (λ done. F.Storage.puts self.old.storage (place_at self.new id) bytes.now (Ok done) self.new.storage) }
+        ensures freed { OnOk result (IfSome (entry_in self.old.row.items id) (λ held. IsFree (owner_in self.new.room.classes (class_in (len_in held)) (slot_in held)))) }
+
+        // refused: the key has its bytes as before, and none has a slot more; a refusal for want of memory asked nothing of the storage
+        ensures left { OnErr result (bytes_at self.new id ≡ bytes_at self.old id) }
+        ensures slots { OnErr result (KeepsOwned (owner_in self.new.room.classes) (owner_in self.old.room.classes)) }
+        ensures unasked { result ≡ Err Memory → self.new.storage ≡ self.old.storage }
+
+        // other keys have their bytes either way, and the storage is as honest as before
         ensures others { KeepsOthers (bytes_at self.old) (bytes_at self.new) id }
-        ensures faults { faults_of self.new ≡ counted (is_fault result) (faults_of self.old) }
         ensures honest { F.Storage.honest self.new.storage ≡ F.Storage.honest self.old.storage }
         ensures as_honest { is_honest self.new ≡ is_honest self.old }
-        ensures left { OnErr result (bytes_at self.new id ≡ bytes_at self.old id) }
-        ensures freed { OnOk result (IfSome (entry_in self.old.row.items id) (λ held. IsFree (owner_in self.new.room.classes (class_in (len_in held)) (slot_in held)))) }
-        ensures called { IfOk result (λ done. F.Storage.puts self.old.storage (place_at self.new id) bytes.now (Ok done) self.new.storage) }
-        ensures unasked { result ≡ Err Memory → self.new.storage ≡ self.old.storage }
+
+        // a fault is counted, and told: no slot for such a key or so many bytes, which is refused before anything is asked; no slot that is free; or the storage's
+        ensures faults { faults_of self.new ≡ counted (is_fault result) (faults_of self.old) }
         ensures no_slot { (KEYS ≤ id) ⊎ (SLOT < length bytes.now) → (result ≡ Err Failed) × (self.new.told ≡ Some record { key = id; why = NoSlot }) × (bytes_at self.new ≡ bytes_at self.old) × (self.new.storage ≡ self.old.storage) }
         ensures told { id < KEYS → length bytes.now ≤ SLOT → is_fault result ≡ true → StoppedWrite ((self.new.storage ≡ self.old.storage) × (AreOwned (owner_in self.new.room.classes (class_in (length bytes.now))) ⊎ HasNoMore self.new.room.below self.new.room.shared)) (puts_somewhere F.Storage.puts self.old.storage bytes.now self.new.storage) id self.new.told }
         ensures kept_told { is_fault result ≡ false → self.new.told ≡ self.old.told }
@@ -434,17 +470,24 @@ impl<F: Storage + Drop, L: Seal> Device for SealedDevice<F, L> {
     /// As `read`. Takes no memory if the buffer has room for the bytes.
     #[tactic(auto, using(crate::proofs::Rows::either))]
     fn read_into(&mut self, id: u32, buffer: &mut Vec<u8>) -> Result<(), DeviceFault>
+        // done: as many bytes as were written, which one call of the storage gave: those that were written, if it is honest
         ensures called { IfSome (bytes_at self.old id) (λ stored. OnOk result (F.Storage.gets self.old.storage (place_at self.old id) (length stored) (Ok buffer.new.items))) }
         ensures len { IfSome (bytes_at self.old id) (λ stored. OnOk result (vec_len buffer.new ≡ length stored)) }
         ensures given { is_honest self.old ≡ true → OnOk result (IfSome (bytes_at self.old id) (λ stored. buffer.new.items ≡ stored)) }
+
+        // a fault is counted, and told: nothing is under the key, or what came of the storage
+        ensures faults { faults_of self.new ≡ counted (is_fault result) (faults_of self.old) }
         ensures nothing { IfNone (bytes_at self.old id) ((result ≡ Err Failed) × (self.new.told ≡ Some record { key = id; why = Nothing })) }
         ensures told { IfSome (bytes_at self.old id) (λ stored. is_fault result ≡ true → StoppedRead (F.Storage.honest self.old.storage) (F.Storage.gets self.old.storage (place_at self.old id) (length stored)) id self.new.told) }
         ensures kept_told { is_fault result ≡ false → self.new.told ≡ self.old.told }
+
+        // all keys have their bytes, and the storage is as it was
         ensures kept { bytes_at self.new ≡ bytes_at self.old }
+        ensures storage { self.new.storage ≡ self.old.storage }
+
+        // the buffer never has less room, and no memory is taken where it has enough
         ensures room { vec_capacity buffer.old ≤ vec_capacity buffer.new }
         ensures in_place { IfSome (bytes_at self.old id) (λ stored. length stored ≤ vec_capacity buffer.old → result ≢ Err Memory) }
-        ensures faults { faults_of self.new ≡ counted (is_fault result) (faults_of self.old) }
-        ensures storage { self.new.storage ≡ self.old.storage }
     {
         let Some(len) = self.len_of(id) else {
             return Err(self.fail(id, FileFault::Nothing));

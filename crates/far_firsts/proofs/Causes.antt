@@ -4,10 +4,9 @@ use Rattle.std.specs.Io.KnownBytes.{Consumes, Keeps}
 use Rattle.std.proofs.lemmas.List.{append-nil, append_assoc, get_or_at, length-append}
 use Rattle.far_word.specs.declared.refused.Refused.{Refused as Refusal}
 use Rattle.far_word.specs.declared.refused.Refused.TheVariants.{Length, Memory}
-use Rattle.far_seen.specs.Lines.{LineSet}
 use Rattle.far_firsts.specs.Lines.{ends_in, lines_of, text_of, IsPlain}
 use Rattle.far_firsts.specs.Causes.{IsCause, IsWhyNext, IsWhyNot}
-use Rattle.far_firsts.specs.Doing.{Did, IsWhyHalt, State, state}
+use Rattle.far_firsts.specs.Doing.{Did, IsWhyHalt, Known, State, state}
 use Rattle.far_firsts.specs.declared.end.Why.{Why}
 use Rattle.far_firsts.specs.declared.end.Why.TheVariants.{Done, Refused, Input, Output, TooMany}
 use Rattle.far_firsts.proofs.Cuts.{ends_of, first_line, lines_join, lines_within, plain_join}
@@ -21,9 +20,9 @@ longer longest refuses m k why le w = elim w [
 ]
 
 -- ---- of a run that halts
-module _ (longest : ℕ) (refuses : Refusal → Type 0) (end : ℕ) (lines : LineSet) (part piece : List ℕ) (count : ℕ) (p : IsPlain end part) (q : IsPlain end piece) where
+module _ (longest : ℕ) (refuses : Refusal → Type 0) (end : ℕ) (known : Known) (part piece : List ℕ) (count : ℕ) (p : IsPlain end part) (q : IsPlain end piece) where
   -- at a line whose end is there
-  pub end_halts : (rest tail : List ℕ) (why : Why) → rest ≡ (piece ++ end ∷ []) ++ tail → IsWhyNext longest refuses count (length (part ++ piece)) why → IsWhyHalt longest refuses end (state lines (part ++ rest) count) why
+  pub end_halts : (rest tail : List ℕ) (why : Why) → rest ≡ (piece ++ end ∷ []) ++ tail → IsWhyNext longest refuses count (length (part ++ piece)) why → IsWhyHalt longest refuses end (state known (part ++ rest) count) why
   end_halts rest tail Done is w = absurd w
   end_halts rest tail (Refused why) is w = elim w [
     | inl e ↦ inl e
@@ -41,7 +40,7 @@ module _ (longest : ℕ) (refuses : Refusal → Type 0) (end : ℕ) (lines : Lin
   end_halts rest tail TooMany is w = w
 
   -- bytes of a line whose end isn't there weren't kept
-  pub keep_halts : (why : Refusal) → (why ≡ Memory) ⊎ ((why ≡ Length) × (longest < length part + length piece)) → IsWhyHalt longest refuses end (state lines (part ++ piece) count) (Refused why)
+  pub keep_halts : (why : Refusal) → (why ≡ Memory) ⊎ ((why ≡ Length) × (longest < length part + length piece)) → IsWhyHalt longest refuses end (state known (part ++ piece) count) (Refused why)
   keep_halts why w = elim w [
     | inl e ↦ inl e
     | inr long ↦ inr (
@@ -55,16 +54,16 @@ module _ (longest : ℕ) (refuses : Refusal → Type 0) (end : ℕ) (lines : Lin
   ]
 
 -- at the line that the end of the text ends
-pub last_halts : (longest : ℕ) (refuses : Refusal → Type 0) (end : ℕ) (lines : LineSet) (part : List ℕ) (count : ℕ) (why : Why) → IsPlain end part → (length part ≡ 0 → ⊥) → IsWhyNext longest refuses count (length (part ++ [])) why →
-    IsWhyHalt longest refuses end (state lines part count) why
-last_halts longest refuses end lines part count Done p some w = absurd w
-last_halts longest refuses end lines part count (Refused why) p some w = elim w [
+pub last_halts : (longest : ℕ) (refuses : Refusal → Type 0) (end : ℕ) (known : Known) (part : List ℕ) (count : ℕ) (why : Why) → IsPlain end part → (length part ≡ 0 → ⊥) → IsWhyNext longest refuses count (length (part ++ [])) why →
+    IsWhyHalt longest refuses end (state known part count) why
+last_halts longest refuses end known part count Done p some w = absurd w
+last_halts longest refuses end known part count (Refused why) p some w = elim w [
   | inl e ↦ inl e
   | inr by ↦ inr (part, [], sym (append-nil part), p, omega (arith, some), subst (λ t. IsWhyNot longest refuses (length t) why) (append-nil part) by)
 ]
-last_halts longest refuses end lines part count (Input e) p some w = absurd w
-last_halts longest refuses end lines part count (Output e) p some w = absurd w
-last_halts longest refuses end lines part count TooMany p some w = w
+last_halts longest refuses end known part count (Input e) p some w = absurd w
+last_halts longest refuses end known part count (Output e) p some w = absurd w
+last_halts longest refuses end known part count TooMany p some w = w
 
 -- ---- of the text
 module _ (longest : ℕ) (refuses : Refusal → Type 0) (honest : Bool) (end : ℕ) (text bytes rest printed : List ℕ) (a s : State) (left : Option (List ℕ)) (is : text ≡ bytes ++ rest) (nothing : a.part ≡ []) (zero : a.count ≡ 0) (did : Did honest end bytes a s [] printed) where

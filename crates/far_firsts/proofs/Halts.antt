@@ -4,37 +4,39 @@ use Rattle.std.specs.Io.KnownBytes.{Appends}
 use Rattle.std.proofs.KnownBytes.{Appends-nil}
 use Rattle.std.proofs.lemmas.List.{append-nil}
 use Rattle.far_word.specs.declared.refused.Refused.{Refused as Refusal}
-use Rattle.far_seen.specs.Lines.{LineSet}
-use Rattle.far_firsts.specs.Lines.{IsPlain}
+use Rattle.std.specs.FinSet as set
+use Rattle.far_firsts.specs.Lines.{key_of, IsPlain}
 use Rattle.far_firsts.specs.Causes.{IsWhyNext}
-use Rattle.far_firsts.specs.Doing.{Added, Did, Finished, Halted, IsOver, IsWhyHalt, Leaves, State, Stopped, Wrote, last_of, state, unless_in}
+use Rattle.far_firsts.specs.Doing.{Added, Did, Finished, Halted, IsOver, IsWhyHalt, Known, Leaves, State, Stopped, Wrote, last_of, state, unless_in}
 use Rattle.far_firsts.specs.declared.end.Why.{Why}
 use Rattle.far_firsts.specs.declared.end.Why.TheVariants.{Done}
 use Rattle.far_firsts.proofs.Causes.{last_halts}
 use Rattle.far_firsts.proofs.Newness.{text_one}
-use Rattle.far_firsts.proofs.OneOfEach.{one_part}
+use Rattle.far_firsts.proofs.OneOfEach.{first_part, one_part}
 use Rattle.far_firsts.proofs.Steps.{leaves_all}
 
 -- ---- the text has ended
-pub finished_none : (longest : ℕ) (refuses : Refusal → Type 0) (honest : Bool) (end : ℕ) (lines : LineSet) (part : List ℕ) (n : ℕ) (a : Option (List ℕ)) → part ≡ [] → Finished longest refuses honest end (state lines part n) n Done a a
-finished_none longest refuses honest end lines part n a none = record {
+pub finished_none : (longest : ℕ) (refuses : Refusal → Type 0) (honest : Bool) (end : ℕ) (known : Known) (part : List ℕ) (n : ℕ) (a : Option (List ℕ)) → part ≡ [] → Finished longest refuses honest end (state known part n) n Done a a
+finished_none longest refuses honest end known part n a none = record {
   ended = [];
   kept = [];
   which = inl (sym (ap last_of none), tt);
   count = omega arith;
   some = tt;
+  first = tt;
   exact = λ h. refl;
   leaves = Appends-nil a;
 }
 
-pub finished_refused : (longest : ℕ) (refuses : Refusal → Type 0) (honest : Bool) (end : ℕ) (lines : LineSet) (part : List ℕ) (count n : ℕ) (why : Why) (a : Option (List ℕ)) → IsPlain end part → (length part ≡ 0 → ⊥) →
-    IsWhyNext longest refuses count (length (part ++ [])) why → n ≡ count → Finished longest refuses honest end (state lines part count) n why a a
-finished_refused longest refuses honest end lines part count n why a plain some w same = record {
+pub finished_refused : (longest : ℕ) (refuses : Refusal → Type 0) (honest : Bool) (end : ℕ) (known : Known) (part : List ℕ) (count n : ℕ) (why : Why) (a : Option (List ℕ)) → IsPlain end part → (length part ≡ 0 → ⊥) →
+    IsWhyNext longest refuses count (length (part ++ [])) why → n ≡ count → Finished longest refuses honest end (state known part count) n why a a
+finished_refused longest refuses honest end known part count n why a plain some w same = record {
   ended = [];
   kept = [];
-  which = inr (refl, last_halts longest refuses end lines part count why plain some w);
+  which = inr (refl, last_halts longest refuses end known part count why plain some w);
   count = omega (arith, same);
   some = tt;
+  first = tt;
   exact = λ h. refl;
   leaves = leaves_all why [] a a (Appends-nil a);
 }
@@ -43,9 +45,9 @@ last_is : (xs : List ℕ) → (length xs ≡ 0 → ⊥) → ◌≡◌ {A = List 
 last_is [] f = absurd (f refl)
 last_is (x ∷ xs) f = refl
 
-pub finished_last : (longest : ℕ) (refuses : Refusal → Type 0) (honest : Bool) (end : ℕ) (lines put : LineSet) (part before out : List ℕ) (count n : ℕ) (why : Why) (a b : Option (List ℕ)) → IsPlain end part → (length part ≡ 0 → ⊥) → n ≡ count + 1 → before ≡ [] →
-    Added honest end lines put (part ++ []) before out → IsOver why → Leaves why out a b → Finished longest refuses honest end (state lines part count) n why a b
-finished_last longest refuses honest end lines put part before out count n why a b plain some counted none added over leaves =
+pub finished_last : (longest : ℕ) (refuses : Refusal → Type 0) (honest : Bool) (end : ℕ) (known put : Known) (part before out : List ℕ) (count n : ℕ) (why : Why) (a b : Option (List ℕ)) → IsPlain end part → (length part ≡ 0 → ⊥) → n ≡ count + 1 → before ≡ [] →
+    Added honest end known put (part ++ []) before out → IsOver why → Leaves why out a b → Finished longest refuses honest end (state known part count) n why a b
+finished_last longest refuses honest end known put part before out count n why a b plain some counted none added over leaves =
     let is : ◌≡◌ {A = List (List ℕ)} ((part ++ []) ∷ []) (last_of part) = ap (λ (t : List ℕ). t ∷ []) (append-nil part) ∙ last_is part some in
     record {
       ended = (part ++ []) ∷ [];
@@ -53,7 +55,8 @@ finished_last longest refuses honest end lines put part before out count n why a
       which = inl (is, over);
       count = counted;
       some = one_part added.known (part ++ []);
-      exact = λ h. ap (λ b. cond b [] ((part ++ []) ∷ [])) (added.exact h).0 ∙ sym (append-nil (unless_in end lines (part ++ [])));
+      first = first_part added.known (set.contains known.stamps (known.stamp (part ++ []))) (part ++ []) added.stamped;
+      exact = λ h. ap (λ b. cond b [] ((part ++ []) ∷ [])) (added.exact h).0 ∙ sym (append-nil (unless_in (key_of end) known.lines (part ++ [])));
       leaves = subst (λ t. Leaves why t a b)
           (added.out ∙ ap (λ t. t ++ cond added.known [] ((part ++ []) ++ end ∷ [])) none ∙ sym (text_one end added.known (part ++ []))) leaves;
     }

@@ -6,6 +6,7 @@ pub mod Runs
 pub mod Outputs
 pub mod Halts
 pub mod OneOfEach
+pub mod Stamps
 pub mod Tallies
 pub mod Tallying
 pub mod Showing

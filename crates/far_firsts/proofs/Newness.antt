@@ -1,7 +1,7 @@
 -- The first line of each kind, by a set of what stands for lines.
 use Rattle.std.proofs.Common.{◌≡◌, ℕ, ◌==◌, Bool, true, false, cond, ◌||◌, List, [], ◌∷◌, ◌++◌, take, drop, map, refl, sym, ◌∙◌, ap, subst}
 use Rattle.std.specs.List.{list_any}
-use Rattle.std.specs.Cmp.Lexicographic.{nat_list_cmp_total}
+use Rattle.std.specs.Cmp.Lexicographic.{nat_list_cmp_total, texts_ties}
 use Rattle.std.specs.Str.{bytes_eq}
 use Rattle.std.specs.FinSet as set
 use Rattle.std.proofs.lemmas.Slice.Eq.{bytes_eq-Decides}
@@ -9,7 +9,7 @@ use Rattle.std.proofs.lemmas.List.{append-nil, append_assoc, take-append-drop}
 use Rattle.far_seen.specs.Lines.{LineSet}
 use Rattle.far_seen.proofs.Members.{tied, ties}
 use Rattle.far_firsts.specs.Lines.{text_of, key_of, IsPlain, ArePlain}
-use Rattle.far_firsts.specs.Firsts.{is_among, unless_among, firsts_after, firsts, came}
+use Rattle.far_firsts.specs.Firsts.{is_among, unless_among, firsts_after, firsts, firsts_by, came}
 use Rattle.far_firsts.specs.Doing.{news, put_all, unless_in}
 use Rattle.far_firsts.proofs.Cuts.{itself, text_join}
 
@@ -78,28 +78,45 @@ is_known : (end : ℕ) (lines : LineSet) (l : List ℕ) (ms : List (List ℕ)) �
 is_known end lines l ms is p q =
     ap (λ s. set.contains s (key_of end l)) is ∙ set.contains-from_list nat_list_cmp_total (map (key_of end) ms) (key_of end l) ∙ among_keys end l ms p q
 
-news_after : (end : ℕ) (lines : LineSet) (before ls : List (List ℕ)) → lines ≡ set.from_list (map (key_of end) before) → ArePlain end before → ArePlain end ls → news end lines ls ≡ firsts_after before ls
+news_after : (end : ℕ) (lines : LineSet) (before ls : List (List ℕ)) → lines ≡ set.from_list (map (key_of end) before) → ArePlain end before → ArePlain end ls → news (key_of end) lines ls ≡ firsts_after before ls
 news_after end lines before [] is p q = refl
 news_after end lines before (l ∷ ls) is p q =
-    let here : unless_in end lines l ≡ unless_among before l = ap (λ b. cond b [] (l ∷ [])) (is_known end lines l before is q.0 p) in
-    let there : news end (set.insert lines (key_of end l)) ls ≡ firsts_after (l ∷ before) ls =
+    let here : unless_in (key_of end) lines l ≡ unless_among before l = ap (λ b. cond b [] (l ∷ [])) (is_known end lines l before is q.0 p) in
+    let there : news (key_of end) (set.insert lines (key_of end l)) ls ≡ firsts_after (l ∷ before) ls =
     news_after end (set.insert lines (key_of end l)) (l ∷ before) ls (ap (λ s. set.insert s (key_of end l)) is) (q.0, p) q.1 in
     λ i. here i ++ there i
 
 -- of lines that come to an empty set the new ones are the first of each kind
-pub news_are : (end : ℕ) (lines : LineSet) (ls : List (List ℕ)) → lines ≡ set.empty → ArePlain end ls → news end lines ls ≡ firsts ls
+pub news_are : (end : ℕ) (lines : LineSet) (ls : List (List ℕ)) → lines ≡ set.empty → ArePlain end ls → news (key_of end) lines ls ≡ firsts ls
 news_are end lines ls none p = news_after end lines [] ls none tt p
 
--- ---- lines after lines
-pub put_join : (end : ℕ) (lines : LineSet) (xs ys : List (List ℕ)) → put_all end lines (xs ++ ys) ≡ put_all end (put_all end lines xs) ys
-put_join end lines [] ys = refl
-put_join end lines (l ∷ ls) ys = put_join end (set.insert lines (key_of end l)) ls ys
+-- ---- by stamps
+among_tied : (q : List ℕ) (ms : List (List ℕ)) → list_any (tied q) ms ≡ is_among q ms
+among_tied q [] = refl
+among_tied q (m ∷ ms) = λ i. sym (texts_ties q m) i || among_tied q ms i
 
-pub news_join : (end : ℕ) (lines : LineSet) (xs ys : List (List ℕ)) → news end lines (xs ++ ys) ≡ news end lines xs ++ news end (put_all end lines xs) ys
-news_join end lines [] ys = refl
-news_join end lines (l ∷ ls) ys =
-    ap (λ t. unless_in end lines l ++ t) (news_join end (set.insert lines (key_of end l)) ls ys)
-    ∙ sym (append_assoc (unless_in end lines l) (news end (set.insert lines (key_of end l)) ls) (news end (put_all end (set.insert lines (key_of end l)) ls) ys))
+firsts_after_by : (stamp : List ℕ → List ℕ) (stamps : LineSet) (before ls : List (List ℕ)) → stamps ≡ set.from_list before → news stamp stamps ls ≡ firsts_by stamp before ls
+firsts_after_by stamp stamps before [] is = refl
+firsts_after_by stamp stamps before (l ∷ ls) is =
+    let known : set.contains stamps (stamp l) ≡ is_among (stamp l) before =
+    ap (λ s. set.contains s (stamp l)) is ∙ set.contains-from_list nat_list_cmp_total before (stamp l) ∙ among_tied (stamp l) before in
+    let there : news stamp (set.insert stamps (stamp l)) ls ≡ firsts_by stamp (stamp l ∷ before) ls = firsts_after_by stamp (set.insert stamps (stamp l)) (stamp l ∷ before) ls (ap (λ s. set.insert s (stamp l)) is) in
+    λ i. cond (known i) [] (l ∷ []) ++ there i
+
+-- of lines that come to an empty set the new ones are the first of each stamp
+pub firsts_are : (stamp : List ℕ → List ℕ) (stamps : LineSet) (ls : List (List ℕ)) → stamps ≡ set.empty → news stamp stamps ls ≡ firsts_by stamp [] ls
+firsts_are stamp stamps ls none = firsts_after_by stamp stamps [] ls none
+
+-- ---- lines after lines
+pub put_join : (key : List ℕ → List ℕ) (keys : LineSet) (xs ys : List (List ℕ)) → put_all key keys (xs ++ ys) ≡ put_all key (put_all key keys xs) ys
+put_join key keys [] ys = refl
+put_join key keys (l ∷ ls) ys = put_join key (set.insert keys (key l)) ls ys
+
+pub news_join : (key : List ℕ → List ℕ) (keys : LineSet) (xs ys : List (List ℕ)) → news key keys (xs ++ ys) ≡ news key keys xs ++ news key (put_all key keys xs) ys
+news_join key keys [] ys = refl
+news_join key keys (l ∷ ls) ys =
+    ap (λ t. unless_in key keys l ++ t) (news_join key (set.insert keys (key l)) ls ys)
+    ∙ sym (append_assoc (unless_in key keys l) (news key (set.insert keys (key l)) ls) (news key (put_all key (set.insert keys (key l)) ls) ys))
 
 pub text_one : (end : ℕ) (known : Bool) (l : List ℕ) → text_of end (cond known [] (l ∷ [])) ≡ cond known [] (l ++ end ∷ [])
 text_one end true l = refl

@@ -1,5 +1,5 @@
 -- The first lines of each kind, in other words.
-use Rattle.std.proofs.Common.{◌≡◌, ℕ, Bool, true, false, cond, not, ◌&&◌, ◌||◌, List, [], ◌∷◌, ◌++◌, inl, inr, refl, sym, ◌∙◌, ap}
+use Rattle.std.proofs.Common.{◌≡◌, ℕ, Bool, true, false, cond, not, ◌&&◌, ◌||◌, List, [], ◌∷◌, ◌++◌, inl, inr, refl, sym, ◌∙◌, ap, subst}
 use Rattle.std.specs.Str.{bytes_eq}
 use Rattle.std.proofs.lemmas.Slice.Eq.{bytes_eq-Decides}
 use Rattle.far_firsts.specs.Firsts.{is_among, firsts_after, NoneTwice, IsPartOf}
@@ -23,6 +23,12 @@ part_join (x ∷ xs) ys (l ∷ ls) ms p q = elim p [
 pub one_part : (known : Bool) (l : List ℕ) → IsPartOf (cond known [] (l ∷ [])) (l ∷ [])
 one_part true l = tt
 one_part false l = inl (refl, tt)
+
+-- a line that is left out for one of its stamp
+pub first_part : (known there : Bool) (l : List ℕ) → (known ≡ true → there ≡ true) → IsPartOf (cond there [] (l ∷ []) ++ []) (cond known [] (l ∷ []))
+first_part true there l f = subst (λ b. IsPartOf (cond b [] (l ∷ []) ++ []) []) (sym (f refl)) tt
+first_part false true l f = tt
+first_part false false l f = inl (refl, tt)
 
 pub are_part : (before xs : List (List ℕ)) → IsPartOf (firsts_after before xs) xs
 are_part before [] = tt

@@ -5,16 +5,16 @@ use Rattle.std.specs.Io.KnownBytes.{Consumes, IsAtEnd, Keeps}
 use Rattle.std.proofs.KnownBytes.{Appends-nil, Appends-trans}
 use Rattle.std.proofs.lemmas.List.{append-nil, append_assoc, length-append, take_all, take_at}
 use Rattle.far_word.specs.declared.refused.Refused.{Refused as Refusal}
-use Rattle.far_firsts.specs.Lines.{ends_in, lines_of, text_of, IsPlain, ArePlain}
-use Rattle.far_firsts.specs.Firsts.{firsts, IsPartOf}
+use Rattle.far_firsts.specs.Lines.{ends_in, key_of, lines_of, text_of, IsPlain, ArePlain}
+use Rattle.far_firsts.specs.Firsts.{firsts, firsts_by, IsPartOf}
 use Rattle.far_firsts.specs.Causes.{IsCause}
-use Rattle.far_firsts.specs.Doing.{Did, Finished, Halted, IsOver, Leaves, State, Went, Wrote, last_of, news}
+use Rattle.far_firsts.specs.Doing.{Did, Finished, Halted, IsOver, Leaves, State, Went, Wrote, last_of, news, put_all}
 use Rattle.far_firsts.specs.Telling.{Tells}
 use Rattle.far_firsts.specs.declared.end.Why.{Why}
 use Rattle.far_firsts.specs.declared.end.Why.TheVariants.{Done, Refused, Input, Output, TooMany}
 use Rattle.far_firsts.proofs.Causes.{all_ends, done_are, failed_read, halt_cause, lines_are}
 use Rattle.far_firsts.proofs.Cuts.{all_plain_join, lines_last, text_join}
-use Rattle.far_firsts.proofs.Newness.{news_are, news_join}
+use Rattle.far_firsts.proofs.Newness.{firsts_are, news_are, news_join}
 use Rattle.far_firsts.proofs.OneOfEach.{part_join}
 use Rattle.far_firsts.proofs.Steps.{did_beside, leaves_all, leaves_then, left_of, some_same}
 
@@ -45,10 +45,10 @@ module _ (honest : Bool) (end reads : ℕ) (text : List ℕ) (a b : State) (left
       }
 
   -- ---- what the ends tell: the run began with no line
-  module _ (longest : ℕ) (refuses : Refusal → Type 0) (none : a.lines ≡ set.empty) (nothing : a.part ≡ []) (zero : a.count ≡ 0) where
+  module _ (longest : ℕ) (refuses : Refusal → Type 0) (none : a.known.lines ≡ set.empty) (no_stamps : a.known.stamps ≡ set.empty) (nothing : a.part ≡ []) (zero : a.count ≡ 0) where
     -- of a beginning of the text so much is done
     told : (bytes rest printed : List ℕ) (s : State) (n : ℕ) (why : Why) (last r : Option (List ℕ)) → text ≡ bytes ++ rest → Did honest end bytes a s [] printed → s.count ≡ n → IsCause longest refuses end n why text last →
-        Leaves why printed p r → Tells longest refuses honest end n why text last p r
+        Leaves why printed p r → Tells longest refuses honest a.known.stamp end n why text last p r
     told bytes rest printed s n why last r is did counted cause leaves =
         let lines : lines_of end text ≡ did.ended ++ lines_of end (s.part ++ rest) = lines_are longest refuses honest end text bytes rest printed a s last is nothing zero did in
         let count : length did.ended ≡ n = done_are longest refuses honest end text bytes rest printed a s last is nothing zero did n counted in
@@ -58,27 +58,28 @@ module _ (honest : Bool) (end reads : ℕ) (text : List ℕ) (a b : State) (left
           cause = cause;
           printed = did.kept;
           some = subst (IsPartOf did.kept) (sym these) did.some;
-          exact = λ h. (did.exact h).0 ∙ news_are end a.lines did.ended none did.plain ∙ ap firsts (sym these);
+          first = subst (λ ls. IsPartOf ls did.kept) (firsts_are a.known.stamp a.known.stamps did.ended no_stamps ∙ ap (firsts_by a.known.stamp []) (sym these)) did.first;
+          exact = λ h. (did.exact h).0 ∙ news_are end a.known.lines did.ended none did.plain ∙ ap firsts (sym these);
           leaves = subst (λ t. Leaves why t p r) did.out leaves;
         }
 
     -- the input fails
     pub fails : (n : ℕ) (why : Why) (after : Option (List ℕ)) → b.count ≡ n → IsPlain end b.part → Keeps left after → ((read : List ℕ) × Consumes (Some text) after read × (n ≡ ends_in end read) → IsCause longest refuses end n why text after) →
-        Tells longest refuses honest end n why text after p q
+        Tells longest refuses honest a.known.stamp end n why text after p q
     fails n why after counted plain keeps so =
         told went.bytes went.rest went.wrote.printed b n why after q went.all went.wrote.did counted
         (so (went.bytes, failed_read left after text went.bytes went.rest went.is_left went.all keeps, all_ends longest refuses honest end text went.bytes went.rest went.wrote.printed a b after went.all nothing zero went.wrote.did n counted plain))
         (leaves_all why went.wrote.printed p q went.wrote.written)
 
     -- too much came
-    pub ends_there : (n : ℕ) → b.count ≡ n → 18446744073709551615 ≤ reads → Tells longest refuses honest end n TooMany text left p q
+    pub ends_there : (n : ℕ) → b.count ≡ n → 18446744073709551615 ≤ reads → Tells longest refuses honest a.known.stamp end n TooMany text left p q
     ends_there n counted many =
         told went.bytes went.rest went.wrote.printed b n TooMany left q went.all went.wrote.did counted
         (omega (arith, many, went.long, ap (λ (t : List ℕ). length t) went.all, length-append went.bytes went.rest))
         went.wrote.written
 
     -- the run ends in the midst of what was read
-    pub halts : (chunk : List ℕ) (n : ℕ) (why : Why) (after r : Option (List ℕ)) → Consumes left after chunk → Halted longest refuses honest end chunk b n why q r → Tells longest refuses honest end n why text after p r
+    pub halts : (chunk : List ℕ) (n : ℕ) (why : Why) (after r : Option (List ℕ)) → Consumes left after chunk → Halted longest refuses honest end chunk b n why q r → Tells longest refuses honest a.known.stamp end n why text after p r
     halts chunk n why after r eats halted =
         let more = left_of left after went.rest chunk went.is_left eats in
         let s = halted.stopped.now in
@@ -137,17 +138,28 @@ module _ (honest : Bool) (end reads : ℕ) (text : List ℕ) (a b : State) (left
       finishes_exact : honest ≡ true → d.kept ++ f.kept ≡ firsts (take n (lines_of end text))
       unfolding d
       finishes_exact h =
-          (λ i. (d.exact h).0 i ++ (f.exact h ∙ ap (λ s. news end s f.ended) (d.exact h).1) i)
-          ∙ sym (news_join end a.lines d.ended f.ended)
-          ∙ news_are end a.lines (d.ended ++ f.ended) none (all_plain_join end d.ended f.ended d.plain taken.0) ∙ ap firsts (sym taken.1)
+          (λ i. (d.exact h).0 i ++ (f.exact h ∙ ap (λ s. news (key_of end) s f.ended) (d.exact h).1) i)
+          ∙ sym (news_join (key_of end) a.known.lines d.ended f.ended)
+          ∙ news_are end a.known.lines (d.ended ++ f.ended) none (all_plain_join end d.ended f.ended d.plain taken.0) ∙ ap firsts (sym taken.1)
 
-      pub finishes : Tells longest refuses honest end n why text after p r
+      finishes_first : IsPartOf (firsts_by a.known.stamp [] (take n (lines_of end text))) (d.kept ++ f.kept)
+      unfolding d
+      finishes_first =
+          let stamp = a.known.stamp in
+          let stamps = a.known.stamps in
+          subst (λ ls. IsPartOf ls (d.kept ++ f.kept))
+          (sym (news_join stamp stamps d.ended f.ended) ∙ firsts_are stamp stamps (d.ended ++ f.ended) no_stamps ∙ ap (firsts_by stamp []) (sym taken.1))
+          (part_join (news stamp stamps d.ended) (news stamp (put_all stamp stamps d.ended) f.ended) d.kept f.kept d.first
+          (subst (λ ls. IsPartOf ls f.kept) (λ i. news (d.same i) (d.stamps i) f.ended) f.first))
+
+      pub finishes : Tells longest refuses honest a.known.stamp end n why text after p r
       unfolding d
       finishes = record {
         count = taken.2;
         cause = taken.3;
         printed = d.kept ++ f.kept;
         some = subst (IsPartOf (d.kept ++ f.kept)) (sym taken.1) (part_join d.kept f.kept d.ended f.ended d.some f.some);
+        first = finishes_first;
         exact = finishes_exact;
         leaves = subst (λ t. Leaves why t p r) (ap (λ t. t ++ text_of end f.kept) d.out ∙ sym (text_join end d.kept f.kept))
             (leaves_then why went.wrote.printed (text_of end f.kept) p q r went.wrote.written f.leaves);
@@ -163,7 +175,7 @@ begins honest end text a left p is nothing = record {
   long = omega arith;
   wrote = record {
     printed = [];
-    did = record { ended = []; kept = []; plain = tt; text = append-nil a.part; count = omega arith; some = tt; exact = λ h. (refl, refl); out = refl };
+    did = record { ended = []; kept = []; plain = tt; text = append-nil a.part; count = omega arith; some = tt; first = tt; stamps = refl; same = refl; exact = λ h. (refl, refl); out = refl };
     written = Appends-nil p;
   };
 }

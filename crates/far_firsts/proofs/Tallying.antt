@@ -1,14 +1,18 @@
 -- What is counted of some bytes, and then of others.
-use Rattle.std.proofs.Common.{◌≡◌, ℕ, ◌+◌, ◌<◌, ◌≤◌, Bool, true, false, Option, Some, List, [], ◌∷◌, ◌++◌, length, refl, sym, ◌∙◌, ap, subst, arith}
+use Rattle.std.proofs.Common.{◌≡◌, ℕ, ◌+◌, ◌<◌, ◌≤◌, Bool, true, false, cond, ◌||◌, Option, Some, List, [], ◌∷◌, ◌++◌, length, refl, sym, ◌∙◌, ap, subst, arith}
+use Rattle.std.specs.Cmp.Lexicographic.{nat_list_cmp_total}
 use Rattle.std.specs.FinSet as set
 use Rattle.std.specs.Io.KnownBytes.{Consumes, Keeps}
 use Rattle.std.proofs.lemmas.List.{append-nil, append_assoc, length-append}
 use Rattle.far_word.specs.declared.refused.Refused.{Refused as Refusal}
+use Rattle.far_seen.specs.Lines.{LineSet}
 use Rattle.far_seen.specs.Tallied.{Counts, counted, total}
+use Rattle.far_seen.proofs.Members.{put_again, ties}
 use Rattle.far_firsts.specs.Lines.{ends_in, key_of, lines_of, text_of, IsPlain}
 use Rattle.far_firsts.specs.Causes.{IsCause}
-use Rattle.far_firsts.specs.Doing.{Did, IsWhyHalt, State, Stopped, last_of}
-use Rattle.far_firsts.specs.Tallying.{Came, Counted, Gone, IsStop, Last, Whole, count_all, midst}
+use Rattle.far_firsts.specs.Firsts.{IsPartOf}
+use Rattle.far_firsts.specs.Doing.{Did, IsWhyHalt, State, Stopped, last_of, news, put_all}
+use Rattle.far_firsts.specs.Tallying.{Came, Counted, Gone, IsStop, Last, Whole, count_all, midst, no_set}
 use Rattle.far_firsts.specs.declared.end.Why.{Why}
 use Rattle.far_firsts.specs.declared.end.Why.TheVariants.{Done, Refused, Input, Output, TooMany}
 use Rattle.far_firsts.proofs.Causes.{all_ends, done_are, failed_read, halt_cause, lines_are}
@@ -53,9 +57,30 @@ came_then honest end xs ys a b c k m n ps qs rs d e = record {
   counts = counted_join honest end ps qs rs d.ended e.ended d.counts e.counts;
 }
 
+-- ---- no set
+abbrev no_stamp : List ℕ → List ℕ
+no_stamp = λ l. []
+
+abbrev no_lines : LineSet
+no_lines = set.empty
+
+there : set.contains no_set.stamps [] ≡ true
+there = set.contains-insert nat_list_cmp_total no_lines [] [] ∙ ap (λ b. b || set.contains no_lines []) ((ties [] []).1 refl)
+
+pub put_none : (ls : List (List ℕ)) → put_all no_stamp no_set.stamps ls ≡ no_set.stamps
+put_none [] = refl
+put_none (l ∷ ls) = ap (λ s. put_all no_stamp s ls) (sym (put_again no_set.stamps [] there)) ∙ put_none ls
+
+news_none : (ls : List (List ℕ)) → news no_stamp no_set.stamps ls ≡ []
+news_none [] = refl
+news_none (l ∷ ls) = (λ i. cond (there i) [] (l ∷ []) ++ news no_stamp (sym (put_again no_set.stamps [] there) i) ls) ∙ news_none ls
+
+pub none_of : (ls : List (List ℕ)) → IsPartOf (news no_stamp no_set.stamps ls) []
+none_of ls = subst (λ t. IsPartOf t []) (sym (news_none ls)) tt
+
 -- the lines of it, and nothing printed
 abbrev pub did_of : (honest : Bool) (end : ℕ) (xs a b : List ℕ) (k m : ℕ) (ps qs : Counts) → Came honest end xs a k b m ps qs → Did false end xs (midst a k) (midst b m) [] []
-did_of honest end xs a b k m ps qs came = record { ended = came.ended; kept = []; plain = came.plain; text = came.text; count = came.count; some = tt; exact = λ e. absurd (no_two e); out = refl }
+did_of honest end xs a b k m ps qs came = record { ended = came.ended; kept = []; plain = came.plain; text = came.text; count = came.count; some = tt; first = none_of came.ended; stamps = sym (put_none came.ended); same = refl; exact = λ e. absurd (no_two e); out = refl }
 
 -- ---- what was read at once
 -- so much of it came
@@ -73,7 +98,7 @@ line_eaten honest end bytes part count b m c n ps qs rs rest piece more so cut c
 pub eaten_stops : (longest : ℕ) (refuses : Refusal → Type 0) (honest : Bool) (end : ℕ) (bytes part : List ℕ) (count : ℕ) (b : List ℕ) (m n : ℕ) (ps qs : Counts) (rest : List ℕ) (why : Why) → Eaten honest end bytes part count b m ps qs rest → n ≡ m →
     IsWhyHalt longest refuses end (midst (b ++ rest) m) why → Stopped longest refuses false end bytes (midst part count) n why [] []
 eaten_stops longest refuses honest end bytes part count b m n ps qs rest why so counted cause =
-    stopped_at longest refuses false end bytes so.0 rest (midst part count) set.empty b m n why [] [] [] so.1 (did_of honest end so.0 part b count m ps qs so.2) counted refl cause
+    stopped_at longest refuses false end bytes so.0 rest (midst part count) no_set b m n why [] [] [] so.1 (did_of honest end so.0 part b count m ps qs so.2) counted refl cause
 
 -- ---- a whole text
 as_stop : (longest : ℕ) (refuses : Refusal → Type 0) (end n : ℕ) (s : State) (why : Why) (text : List ℕ) (left : Option (List ℕ)) → IsWhyHalt longest refuses end s why → IsCause longest refuses end n why text left → IsStop longest refuses end n why text left

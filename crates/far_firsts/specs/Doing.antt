@@ -4,45 +4,57 @@ use Rattle.std.specs.FinSet as set
 use Rattle.std.specs.Io.KnownBytes.{Appends}
 use Rattle.far_word.specs.declared.refused.Refused.{Refused as Refusal}
 use Rattle.far_word.specs.declared.refused.Refused.TheVariants.{Memory}
-use Rattle.far_seen.specs.Lines.{LineSet}
-use Rattle.far_firsts.specs.Lines.{text_of, key_of, IsPlain, ArePlain}
+use Rattle.far_seen.specs.Lines.{LineSet, Lines}
+use Rattle.far_firsts.specs.Lines.{text_of, key_of, stamp_by, IsPlain, ArePlain}
 use Rattle.far_firsts.specs.Causes.{IsWhyNot}
 use Rattle.far_firsts.specs.Firsts.{IsPartOf}
 use Rattle.far_firsts.specs.declared.end.Why.{Why}
 use Rattle.far_firsts.specs.declared.end.Why.TheVariants.{Done, Refused, Input, Output, TooMany}
 
--- the lines of a set, after others were put
-abbrev pub put_all : ℕ → LineSet → List (List ℕ) → LineSet
-put_all end lines [] = lines
-put_all end lines (l ∷ ls) = put_all end (set.insert lines (key_of end l)) ls
+-- a set, after the keys of lines were put
+abbrev pub put_all : (List ℕ → List ℕ) → LineSet → List (List ℕ) → LineSet
+put_all key keys [] = keys
+put_all key keys (l ∷ ls) = put_all key (set.insert keys (key l)) ls
 
--- a line, unless it is in the set
-abbrev pub unless_in : ℕ → LineSet → List ℕ → List (List ℕ)
-unless_in end lines l = cond (set.contains lines (key_of end l)) [] (l ∷ [])
+-- a line, unless its key is in the set
+abbrev pub unless_in : (List ℕ → List ℕ) → LineSet → List ℕ → List (List ℕ)
+unless_in key keys l = cond (set.contains keys (key l)) [] (l ∷ [])
 
--- lines without those that are in the set or came before
-abbrev pub news : ℕ → LineSet → List (List ℕ) → List (List ℕ)
-news end lines [] = []
-news end lines (l ∷ ls) = unless_in end lines l ++ news end (set.insert lines (key_of end l)) ls
+-- lines without those whose key is in the set or came before
+abbrev pub news : (List ℕ → List ℕ) → LineSet → List (List ℕ) → List (List ℕ)
+news key keys [] = []
+news key keys (l ∷ ls) = unless_in key keys l ++ news key (set.insert keys (key l)) ls
+
+-- what a set has: its lines; and the stamps of all that were put, whatever is read
+pub record Known : Type 0 where
+  pub lines : LineSet
+  pub stamp : List ℕ → List ℕ
+  pub stamps : LineSet
+
+abbrev pub known_of : ℕ → Lines → Known
+known_of end s = record { lines = s.lines; stamp = stamp_by s.seed end; stamps = s.stamps }
 
 -- the set; bytes of a line whose end hasn't come; how many lines came
 pub record State : Type 0 where
-  pub lines : LineSet
+  pub known : Known
   pub part : List ℕ
   pub count : ℕ
 
-abbrev pub state : LineSet → List ℕ → ℕ → State
-state lines part count = record { lines = lines; part = part; count = count }
+abbrev pub state : Known → List ℕ → ℕ → State
+state known part count = record { known = known; part = part; count = count }
 
--- a line came, and stands at the end of what is to be written unless it is called known; where the far side is honest, it is called so if
--- it is in the set, and it is put
-pub record Added (honest : Bool) (end : ℕ) (old new : LineSet) (line before after : List ℕ) : Type 0 where
+-- a line came, and stands at the end of what is to be written unless it is called known: only if one of its stamp was put; where the far
+-- side is honest, exactly if it is in the set, and it is put
+pub record Added (honest : Bool) (end : ℕ) (old new : Known) (line before after : List ℕ) : Type 0 where
   pub known : Bool
   pub out : after ≡ before ++ cond known [] (line ++ end ∷ [])
-  pub exact : honest ≡ true → (known ≡ set.contains old (key_of end line)) × (new ≡ set.insert old (key_of end line))
+  pub stamped : known ≡ true → set.contains old.stamps (old.stamp line) ≡ true
+  pub stamps : new.stamps ≡ set.insert old.stamps (old.stamp line)
+  pub same : new.stamp ≡ old.stamp
+  pub exact : honest ≡ true → (known ≡ set.contains old.lines (key_of end line)) × (new.lines ≡ set.insert old.lines (key_of end line))
 
--- these bytes came: they ended some lines, and the `kept` ones stand at the end of what is to be written; where the far side is honest,
--- these are those that were new
+-- these bytes came: they ended some lines, and the `kept` ones stand at the end of what is to be written, among them the first of each
+-- stamp that was new; where the far side is honest, these are those that were new
 pub record Did (honest : Bool) (end : ℕ) (bytes : List ℕ) (old new : State) (before after : List ℕ) : Type 0 where
   pub ended : List (List ℕ)
   pub kept : List (List ℕ)
@@ -50,7 +62,10 @@ pub record Did (honest : Bool) (end : ℕ) (bytes : List ℕ) (old new : State) 
   pub text : old.part ++ bytes ≡ text_of end ended ++ new.part
   pub count : new.count ≡ old.count + length ended
   pub some : IsPartOf kept ended
-  pub exact : honest ≡ true → (kept ≡ news end old.lines ended) × (new.lines ≡ put_all end old.lines ended)
+  pub first : IsPartOf (news old.known.stamp old.known.stamps ended) kept
+  pub stamps : new.known.stamps ≡ put_all old.known.stamp old.known.stamps ended
+  pub same : new.known.stamp ≡ old.known.stamp
+  pub exact : honest ≡ true → (kept ≡ news (key_of end) old.known.lines ended) × (new.known.lines ≡ put_all (key_of end) old.known.lines ended)
   pub out : after ≡ before ++ text_of end kept
 
 -- the next line isn't taken, of which `begun` came; the output's own fault may come whatever was taken
@@ -117,5 +132,6 @@ pub record Finished (longest : ℕ) (refuses : Refusal → Type 0) (honest : Boo
   pub which : ((ended ≡ last_of old.part) × IsOver why) ⊎ ((ended ≡ []) × IsWhyHalt longest refuses end old why)
   pub count : n ≡ old.count + length ended
   pub some : IsPartOf kept ended
-  pub exact : honest ≡ true → kept ≡ news end old.lines ended
+  pub first : IsPartOf (news old.known.stamp old.known.stamps ended) kept
+  pub exact : honest ≡ true → kept ≡ news (key_of end) old.known.lines ended
   pub leaves : Leaves why (text_of end kept) before after

@@ -1,5 +1,7 @@
 -- The lines of a text.
 use Rattle.std.specs.Prelude.{ℕ, ◌==◌, ◌+◌, ⊤, ◌≡◌, false, List, [], ◌∷◌, ◌++◌, if◌then◌else◌}
+use Rattle.std.specs.declared.hash.DefaultHasher.{DefaultHasher}
+use Rattle.far_seen.specs.Lines.{stamp_of}
 
 abbrev pub onto_first : ℕ → List (List ℕ) → List (List ℕ)
 onto_first x [] = (x ∷ []) ∷ []
@@ -34,6 +36,10 @@ key_in none (x ∷ xs) = x ∷ xs
 -- the object that stands for a line: the line, or its end for the empty one, since no object is empty
 abbrev pub key_of : ℕ → List ℕ → List ℕ
 key_of end line = key_in (end ∷ []) line
+
+-- the stamp of a line: of what stands for it the hash of 48 bits, begun with a seed, and the length
+abbrev pub stamp_by : DefaultHasher → ℕ → List ℕ → List ℕ
+stamp_by seed end line = stamp_of seed (key_of end line)
 
 -- no byte ends a line
 abbrev pub IsPlain : ℕ → List ℕ → Type 0

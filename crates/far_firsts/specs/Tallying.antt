@@ -7,7 +7,7 @@ use Rattle.far_word.specs.declared.refused.Refused.{Refused as Refusal}
 use Rattle.far_word.specs.declared.refused.Refused.TheVariants.{Memory}
 use Rattle.far_seen.specs.Tallied.{Counts, count_of, counted, line_of, total}
 use Rattle.far_firsts.specs.Lines.{lines_of, text_of, key_of, ArePlain}
-use Rattle.far_firsts.specs.Doing.{State, last_of, state}
+use Rattle.far_firsts.specs.Doing.{Known, State, last_of, state}
 use Rattle.far_firsts.specs.Tallies.{Prints, counts_text, entry}
 use Rattle.far_firsts.specs.Causes.{IsCause}
 use Rattle.far_firsts.specs.declared.end.Why.{Why}
@@ -20,9 +20,13 @@ abbrev pub count_all : ℕ → Counts → List (List ℕ) → Counts
 count_all end counts [] = counts
 count_all end counts (l ∷ ls) = count_all end (counted counts (key_of end l)) ls
 
+-- nothing is said of a set: all lines have one stamp, and one came
+abbrev pub no_set : Known
+no_set = record { lines = set.empty; stamp = λ l. []; stamps = set.insert set.empty [] }
+
 -- bytes of a line whose end hasn't come, and how many lines came
 abbrev pub midst : List ℕ → ℕ → State
-midst part count = state set.empty part count
+midst part count = state no_set part count
 
 -- some lines came, and were counted
 pub record Counted (honest : Bool) (end : ℕ) (old new : Counts) (ended : List (List ℕ)) : Type 0 where

@@ -3,7 +3,7 @@
 ghost use Rattle.std.specs.Prelude.{◌≡◌, IfErr, OnOk};
 ghost use Rattle.far_firsts.specs.Lines.{IsPlain};
 ghost use Rattle.far_firsts.specs.Causes.{Refuses};
-ghost use Rattle.far_firsts.specs.Doing.{Did, Stopped, state};
+ghost use Rattle.far_firsts.specs.Doing.{Did, Stopped, known_of, state};
 
 use crate::end::Why;
 use crate::line::{keep, take_end};
@@ -23,8 +23,8 @@ pub fn take_bytes<O: Objects + Drop>(
     requires { IsPlain end midst.old.part.items }
     ensures honest { seen.new.honest ≡ seen.old.honest }
     ensures plain { OnOk result (IsPlain end midst.new.part.items) }
-    ensures did { OnOk result (Did seen.old.honest end bytes.now (state seen.old.lines midst.old.part.items midst.old.count) (state seen.new.lines midst.new.part.items midst.new.count) midst.old.out.items midst.new.out.items) }
-    ensures stopped { IfErr result (λ why. Stopped longest (Refuses O.unmade O.unreached seen.old.honest) seen.old.honest end bytes.now (state seen.old.lines midst.old.part.items midst.old.count) midst.new.count why midst.old.out.items midst.new.out.items) }
+    ensures did { OnOk result (Did seen.old.honest end bytes.now (state (known_of end seen.old) midst.old.part.items midst.old.count) (state (known_of end seen.new) midst.new.part.items midst.new.count) midst.old.out.items midst.new.out.items) }
+    ensures stopped { IfErr result (λ why. Stopped longest (Refuses O.unmade O.unreached seen.old.honest) seen.old.honest end bytes.now (state (known_of end seen.old) midst.old.part.items midst.old.count) midst.new.count why midst.old.out.items midst.new.out.items) }
 {
     let mut rest = bytes;
     while let Some(i) = memchr(end, rest) {

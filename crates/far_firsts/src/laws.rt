@@ -1,9 +1,9 @@
 //! What the first lines of each kind are, in other words.
 
-ghost use Rattle.std.specs.Prelude.{◌≡◌, ◌+◌, ◌++◌, ◌∷◌, [], ℕ, List, false, length, map, take};
+ghost use Rattle.std.specs.Prelude.{◌≡◌, ◌+◌, ◌++◌, ◌∷◌, [], ℕ, List, true, false, length, map, take};
 ghost use Rattle.far_seen.specs.Tallied.{counted, total};
 ghost use Rattle.far_firsts.specs.Lines.{ArePlain, closed, lines_of, text_of};
-ghost use Rattle.far_firsts.specs.Firsts.{firsts, is_among, unless_among, NoneTwice, IsPartOf};
+ghost use Rattle.far_firsts.specs.Firsts.{firsts, firsts_by, is_among, unless_among, NoneTwice, IsPartOf};
 ghost use Rattle.far_firsts.specs.Tallies.{how_often, tally};
 
 /// The lines of a text have no end in them; and they and their ends are the text, with an end after the last line if that has none.
@@ -24,6 +24,15 @@ pub fn firsts_are_one_of_each()
 /// What a run prints that ends early is how the right output begins.
 pub fn what_is_printed_is_a_prefix()
     ensures { (end n : ℕ) (lines : List (List ℕ)) → (rest : List ℕ) × (text_of end (firsts lines) ≡ text_of end (firsts (take n lines)) ++ rest) }
+{}
+
+/// What is printed whatever the far side gives: of a text that has a line something; of each line one that has its stamp; the first of each
+/// kind where none that differ have the same; and at worst, where all have the same, the first line.
+pub fn the_first_of_each_stamp_is_printed()
+    ensures some { (stamp : List ℕ → List ℕ) (line : List ℕ) (lines : List (List ℕ)) → IsPartOf (firsts_by stamp [] (line ∷ lines)) [] → ⊥ }
+    ensures each { (stamp : List ℕ → List ℕ) (line : List ℕ) (lines printed : List (List ℕ)) → IsPartOf (firsts_by stamp [] lines) printed → is_among line lines ≡ true → is_among (stamp line) (map stamp printed) ≡ true }
+    ensures apart { (stamp : List ℕ → List ℕ) (lines : List (List ℕ)) → ((l m : List ℕ) → is_among l lines ≡ true → is_among m lines ≡ true → stamp l ≡ stamp m → l ≡ m) → firsts_by stamp [] lines ≡ firsts lines }
+    ensures worst { (line : List ℕ) (lines : List (List ℕ)) → firsts_by (λ l. []) [] (line ∷ lines) ≡ line ∷ [] }
 {}
 
 /// Each line that is counted is the first of its kind, in order; they came as often as there are lines; a line that comes next is counted

@@ -3,7 +3,7 @@
 ghost use Rattle.std.specs.Prelude.{◌≡◌, ◌+◌, ◌<◌, ◌++◌, ◌∷◌, ◌⊎◌, [], IfErr, OnOk, OnErr, length};
 ghost use Rattle.far_firsts.specs.Lines.{key_in};
 ghost use Rattle.far_firsts.specs.Causes.{IsWhyNext, Refuses};
-ghost use Rattle.far_firsts.specs.Doing.{Added};
+ghost use Rattle.far_firsts.specs.Doing.{Added, known_of};
 
 use crate::end::Why;
 use crate::midst::Midst;
@@ -46,7 +46,7 @@ fn take_line<O: Objects + Drop>(
     out: &mut Vec<u8>,
 ) -> Result<(), Refused>
     ensures honest { seen.new.honest ≡ seen.old.honest }
-    ensures added { OnOk result (Added seen.old.honest end seen.old.lines seen.new.lines line.now out.old.items out.new.items) }
+    ensures added { OnOk result (Added seen.old.honest end (known_of end seen.old) (known_of end seen.new) line.now out.old.items out.new.items) }
     ensures refused { OnErr result (out.new.items ≡ out.old.items) }
     ensures why { IfErr result (λ why. (why ≡ Refused.Memory) ⊎ Refuses O.unmade O.unreached seen.old.honest why) }
 {
@@ -84,7 +84,7 @@ pub fn take_end<O: Objects + Drop>(
     midst: &mut Midst,
 ) -> Result<(), Why>
     ensures honest { seen.new.honest ≡ seen.old.honest }
-    ensures added { OnOk result (Added seen.old.honest end seen.old.lines seen.new.lines (midst.old.part.items ++ piece.now) midst.old.out.items midst.new.out.items) }
+    ensures added { OnOk result (Added seen.old.honest end (known_of end seen.old) (known_of end seen.new) (midst.old.part.items ++ piece.now) midst.old.out.items midst.new.out.items) }
     ensures part { OnOk result (midst.new.part.items ≡ []) }
     ensures count { OnOk result (midst.new.count ≡ midst.old.count + 1) }
     ensures out { OnErr result (midst.new.out.items ≡ midst.old.out.items) }

@@ -2,9 +2,9 @@
 
 ghost use Rattle.std.specs.Prelude.{◌≡◌, ◌<◌, [], IfOk, IfSome, length};
 ghost use Rattle.std.specs.FinSet as set;
-ghost use Rattle.far_firsts.specs.Lines.{IsPlain};
+ghost use Rattle.far_firsts.specs.Lines.{IsPlain, stamp_by};
 ghost use Rattle.far_firsts.specs.Causes.{Refuses};
-ghost use Rattle.far_firsts.specs.Doing.{Finished, state};
+ghost use Rattle.far_firsts.specs.Doing.{Finished, known_of, state};
 ghost use Rattle.far_firsts.specs.Telling.{Tells};
 
 use crate::end::{End, Why};
@@ -24,8 +24,8 @@ pub const READ: usize = 65_536;
 ///
 /// `end` ends a line; what follows the last one is a line too, if it has bytes, and gets an end. A line may have `longest` bytes, which
 /// lie near until it is printed: twice so many are asked for, and those are used that lines have. A longer one is refused
-/// [`Refused::Length`], and what came before is printed then. Over a far side that lies a line may be printed again, or not at all; whole
-/// lines of the input are printed, in its order, and nothing else.
+/// [`Refused::Length`], and what came before is printed then. Over a far side that lies a line may be printed again; it is left out only
+/// after another one of its length and its hash, of 48 bits. Whole lines of the input are printed, in its order, and nothing else.
 pub fn uniq<O: Objects + Drop, R: Read, W: Write>(
     alloc: Global,
     seen: &mut Seen<O>,
@@ -34,8 +34,9 @@ pub fn uniq<O: Objects + Drop, R: Read, W: Write>(
     input: &mut R,
     output: &mut W,
 ) -> End
-    requires { seen.old.lines ≡ set.empty }
-    ensures { IfSome (R.remaining input.old) (λ text. Tells longest (Refuses O.unmade O.unreached seen.old.honest) seen.old.honest end result.lines result.why text (R.remaining input.new) (W.contents output.old) (W.contents output.new)) }
+    requires none { seen.old.lines ≡ set.empty }
+    requires stamps { seen.old.stamps ≡ set.empty }
+    ensures { IfSome (R.remaining input.old) (λ text. Tells longest (Refuses O.unmade O.unreached seen.old.honest) seen.old.honest (stamp_by seen.old.seed end) end result.lines result.why text (R.remaining input.new) (W.contents output.old) (W.contents output.new)) }
 {
     let Ok(mut midst) = Midst::new(alloc, longest, READ) else {
         return no_room();
@@ -82,11 +83,12 @@ fn run<O: Objects + Drop, R: Read, W: Write>(
     midst: &mut Midst,
 ) -> End
     requires none { seen.old.lines ≡ set.empty }
+    requires stamps { seen.old.stamps ≡ set.empty }
     requires part { midst.old.part.items ≡ [] }
     requires out { midst.old.out.items ≡ [] }
     requires count { midst.old.count ≡ 0 }
     requires room { 0 < length room.old }
-    ensures { IfSome (R.remaining input.old) (λ text. Tells longest (Refuses O.unmade O.unreached seen.old.honest) seen.old.honest end result.lines result.why text (R.remaining input.new) (W.contents output.old) (W.contents output.new)) }
+    ensures { IfSome (R.remaining input.old) (λ text. Tells longest (Refuses O.unmade O.unreached seen.old.honest) seen.old.honest (stamp_by seen.old.seed end) end result.lines result.why text (R.remaining input.new) (W.contents output.old) (W.contents output.new)) }
 {
     'reads: for turn in 0..u64::MAX {
         let count = match read_some(input, room) {
@@ -127,7 +129,7 @@ fn finish<O: Objects + Drop, W: Write>(
 ) -> End
     requires out { midst.old.out.items ≡ [] }
     requires plain { IsPlain end midst.old.part.items }
-    ensures { Finished longest (Refuses O.unmade O.unreached seen.old.honest) seen.old.honest end (state seen.old.lines midst.old.part.items midst.old.count) result.lines result.why (W.contents output.old) (W.contents output.new) }
+    ensures { Finished longest (Refuses O.unmade O.unreached seen.old.honest) seen.old.honest end (state (known_of end seen.old) midst.old.part.items midst.old.count) result.lines result.why (W.contents output.old) (W.contents output.new) }
 {
     if midst.part.is_empty() {
         return End {

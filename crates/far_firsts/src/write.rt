@@ -4,7 +4,7 @@ ghost use Rattle.std.specs.Prelude.{◌≡◌, ◌<◌, ◌≤◌, ℕ, [], IfEr
 ghost use Rattle.std.specs.Io.KnownBytes.{Appends, ReadConsumes, WriteAppends};
 ghost use Rattle.far_firsts.specs.Lines.{IsPlain};
 ghost use Rattle.far_firsts.specs.Causes.{Refuses};
-ghost use Rattle.far_firsts.specs.Doing.{Halted, Wrote, state};
+ghost use Rattle.far_firsts.specs.Doing.{Halted, Wrote, known_of, state};
 
 use crate::bytes::take_bytes;
 use crate::end::Why;
@@ -100,8 +100,8 @@ pub fn work<O: Objects + Drop, W: Write>(
     ensures honest { seen.new.honest ≡ seen.old.honest }
     ensures plain { OnOk result (IsPlain end midst.new.part.items) }
     ensures empty { midst.new.out.items ≡ [] }
-    ensures wrote { OnOk result (Wrote seen.old.honest end bytes.now (state seen.old.lines midst.old.part.items midst.old.count) (state seen.new.lines midst.new.part.items midst.new.count) (W.contents output.old) (W.contents output.new)) }
-    ensures halted { IfErr result (λ why. Halted longest (Refuses O.unmade O.unreached seen.old.honest) seen.old.honest end bytes.now (state seen.old.lines midst.old.part.items midst.old.count) midst.new.count why (W.contents output.old) (W.contents output.new)) }
+    ensures wrote { OnOk result (Wrote seen.old.honest end bytes.now (state (known_of end seen.old) midst.old.part.items midst.old.count) (state (known_of end seen.new) midst.new.part.items midst.new.count) (W.contents output.old) (W.contents output.new)) }
+    ensures halted { IfErr result (λ why. Halted longest (Refuses O.unmade O.unreached seen.old.honest) seen.old.honest end bytes.now (state (known_of end seen.old) midst.old.part.items midst.old.count) midst.new.count why (W.contents output.old) (W.contents output.new)) }
 {
     let taken = take_bytes(seen, end, longest, bytes, midst);
     match let_out(output, &mut midst.out) {

@@ -3,9 +3,9 @@ use Rattle.std.proofs.Common.{◌≡◌, ◌⊎◌, ℕ, ◌+◌, ◌*◌, ◌/�
 use Rattle.std.proofs.Math.Logic.{∥∥₁_map}
 use Rattle.std.proofs.lemmas.Bool.{false≢true}
 use Rattle.far_word.specs.declared.sizes.TheConstants.{LOG_WORDS}
-use Rattle.far_core.specs.events.Get.{after_get}
-use Rattle.far_core.specs.state.State.{State, put}
-use Rattle.far_core.proofs.Put.{put_both, put_other, put_same}
+use Rattle.far_events.specs.events.Get.{after_get}
+use Rattle.far_events.specs.state.State.{State, put}
+use Rattle.far_events.proofs.Put.{put_both, put_other, put_same}
 use Rattle.far_hand.specs.Finds.{Finds}
 use Rattle.far_hand.specs.Masked.{AllFind, CountsOnRest, recounted}
 use Rattle.far_hand.specs.Quiet.{IsQuietAt, IsQuietBy, RestsAt}

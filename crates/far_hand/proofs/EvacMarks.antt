@@ -9,11 +9,11 @@ use Rattle.far_word.specs.declared.sizes.TheConstants.{CELLS}
 use Rattle.far_word.specs.Mark.{position, marks_with}
 use Rattle.far_word.specs.Pointer.{read_of}
 use Rattle.far_word.proofs.PointerLaws.{with_mark_read}
-use Rattle.far_core.specs.declared.event.Event.TheVariants.{Mark}
-use Rattle.far_core.specs.events.Legal.{Legal}
-use Rattle.far_core.specs.state.Law.{Law}
-use Rattle.far_core.specs.state.State.{State, put}
-use Rattle.far_core.proofs.Put.{put_both}
+use Rattle.far_events.specs.declared.event.Event.TheVariants.{Mark}
+use Rattle.far_events.specs.events.Legal.{Legal}
+use Rattle.far_events.specs.state.Law.{Law}
+use Rattle.far_events.specs.state.State.{State, put}
+use Rattle.far_events.proofs.Put.{put_both}
 use Rattle.far_hand.specs.Masked.{AllFind, CountsOnRest}
 use Rattle.far_hand.specs.Quiet.{IsQuietBy, is_quiet}
 use Rattle.far_hand.proofs.Counting.{rests_more}

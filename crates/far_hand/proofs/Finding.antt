@@ -10,8 +10,8 @@ use Rattle.far_word.specs.declared.pointer.PtrWord.{PtrWord}
 use Rattle.far_word.specs.declared.pointer.PtrWord.TheVariants.{Free, Near, Far}
 use Rattle.far_word.specs.Mark.{marks_with}
 use Rattle.far_word.specs.Pointer.{read_of}
-use Rattle.far_core.specs.state.Jobs.{near_place}
-use Rattle.far_core.proofs.Cells.{map_mark}
+use Rattle.far_events.specs.state.Jobs.{near_place}
+use Rattle.far_events.proofs.Cells.{map_mark}
 use Rattle.far_core.proofs.Marking.{is_owners}
 use Rattle.far_hand.specs.Finds.{Finds, body_of, marks_in}
 

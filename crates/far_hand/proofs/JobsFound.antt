@@ -6,11 +6,11 @@ use Rattle.far_word.specs.declared.job.JobWord.{JobWord}
 use Rattle.far_word.specs.declared.job.JobWord.TheVariants.{Empty, Offered, Taken, Finished}
 use Rattle.far_word.specs.Job.{job_of}
 use Rattle.far_word.proofs.JobLaws.{job_says}
-use Rattle.far_core.specs.events.Get.{IsUncopied}
-use Rattle.far_core.specs.state.Jobs.{is_finished, job_said}
-use Rattle.far_core.specs.state.State.{Copying, put}
-use Rattle.far_core.proofs.KeepJobs.{unworded}
-use Rattle.far_core.proofs.Put.{put_both, put_other, put_same}
+use Rattle.far_events.specs.events.Get.{IsUncopied}
+use Rattle.far_events.specs.state.Jobs.{is_finished, job_said}
+use Rattle.far_events.specs.state.State.{Copying, put}
+use Rattle.far_events.proofs.JobPlaces.{unworded}
+use Rattle.far_events.proofs.Put.{put_both, put_other, put_same}
 use Rattle.far_hand.specs.FindsJob.{FindsJob, GoesOn, copier_in, job_body, rank}
 use Rattle.far_hand.specs.Masked.{AllFindJobs}
 use Rattle.far_hand.specs.MayBe.{job_itself}

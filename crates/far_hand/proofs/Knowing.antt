@@ -8,13 +8,13 @@ use Rattle.far_word.specs.declared.pointer.PtrWord.{PtrWord}
 use Rattle.far_word.specs.declared.pointer.PtrWord.TheVariants.{Free, Near, Far}
 use Rattle.far_word.specs.Pointer.{read_of}
 use Rattle.far_word.specs.Sizes.{words_for}
-use Rattle.far_core.specs.declared.naming.Naming.TheVariants.{Evicts}
-use Rattle.far_core.specs.events.Naming.{IsNaming, no_marks}
-use Rattle.far_core.specs.events.namings.Fetches.{words_stored}
-use Rattle.far_core.specs.events.Quiet.{has_move, IsQuiet}
-use Rattle.far_core.proofs.Cells.{unused}
-use Rattle.far_core.specs.state.Law.{Law}
-use Rattle.far_core.specs.state.State.{State}
+use Rattle.far_events.specs.declared.naming.Naming.TheVariants.{Evicts}
+use Rattle.far_events.specs.events.Naming.{IsNaming, no_marks}
+use Rattle.far_events.specs.events.namings.Fetches.{words_stored}
+use Rattle.far_events.specs.events.Quiet.{has_move, IsQuiet}
+use Rattle.far_events.proofs.Cells.{unused}
+use Rattle.far_events.specs.state.Law.{Law}
+use Rattle.far_events.specs.state.State.{State}
 use Rattle.far_hand.specs.Finds.{Finds, body_of, marks_in}
 use Rattle.far_hand.specs.Known.{unknown}
 use Rattle.far_hand.specs.Masked.{masked}

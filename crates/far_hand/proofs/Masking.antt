@@ -11,10 +11,10 @@ use Rattle.far_word.specs.declared.sizes.TheConstants.{CELLS, LOG_WORDS}
 use Rattle.far_word.specs.Pointer.{read_of}
 use Rattle.far_word.specs.Sizes.{size_of, words_for}
 use Rattle.far_word.proofs.PointerLaws.{read_says}
-use Rattle.far_core.specs.state.Law.{Law, Heads, head_len}
-use Rattle.far_core.specs.state.State.{State, addr}
-use Rattle.far_core.proofs.Bounds.{one_name, span_len}
-use Rattle.far_core.proofs.JobPlaces.{not_target}
+use Rattle.far_events.specs.state.Law.{Law, Heads, head_len}
+use Rattle.far_events.specs.state.State.{State, addr}
+use Rattle.far_events.proofs.Bounds.{one_name, span_len}
+use Rattle.far_events.proofs.JobPlaces.{not_target}
 use Rattle.far_core.proofs.SpanFrames.{past_tail, spans_apart}
 use Rattle.far_hand.specs.Beside.{hidden}
 use Rattle.far_hand.specs.Finds.{Finds, marks_in}

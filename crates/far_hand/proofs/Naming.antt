@@ -12,28 +12,28 @@ use Rattle.far_word.specs.Job.{job_of}
 use Rattle.far_word.specs.Pointer.{read_of}
 use Rattle.far_word.specs.Sizes.{words_for}
 use Rattle.far_word.proofs.PointerLaws.{read_says}
-use Rattle.far_core.specs.declared.event.Event.TheVariants.{Name}
-use Rattle.far_core.specs.declared.event.Reply.{Reply}
-use Rattle.far_core.specs.declared.event.Reply.TheVariants.{Done, Word}
-use Rattle.far_core.specs.declared.naming.Naming.{Naming}
-use Rattle.far_core.specs.declared.naming.Naming.TheVariants.{Places, Retires, Evicts, Stays, Moves, Fetches}
-use Rattle.far_core.specs.events.Copied.{IsCopied, WasCopied, copied_job}
-use Rattle.far_core.specs.events.Copies.{EndsPadded}
-use Rattle.far_core.specs.events.Legal.{Legal}
-use Rattle.far_core.specs.events.Name.{after_naming}
-use Rattle.far_core.specs.events.namings.Evicts.{with_kept}
-use Rattle.far_core.specs.events.namings.Moves.{MayMove, after_move}
-use Rattle.far_core.specs.events.Naming.{naming_of, IsNaming, naming_row}
-use Rattle.far_core.specs.events.NewSpans.{IsNewSpan}
-use Rattle.far_core.specs.events.Step.{after, answer}
-use Rattle.far_core.specs.state.Jobs.{is_finished, job_said}
-use Rattle.far_core.specs.state.Law.{Law, IsStored, head_len, is_dirty}
-use Rattle.far_core.specs.state.State.{State, addr, put}
-use Rattle.far_core.proofs.Copied.{copied_fact, copied_test, none_copied_there}
-use Rattle.far_core.proofs.MadeNamings.{unbegun}
-use Rattle.far_core.proofs.Namings.{naming_only}
-use Rattle.far_core.proofs.Bounds.{span_len}
-use Rattle.far_core.proofs.Put.{put_other, put_same}
+use Rattle.far_events.specs.declared.event.Event.TheVariants.{Name}
+use Rattle.far_events.specs.declared.event.Reply.{Reply}
+use Rattle.far_events.specs.declared.event.Reply.TheVariants.{Done, Word}
+use Rattle.far_events.specs.declared.naming.Naming.{Naming}
+use Rattle.far_events.specs.declared.naming.Naming.TheVariants.{Places, Retires, Evicts, Stays, Moves, Fetches}
+use Rattle.far_events.specs.events.Copied.{IsCopied, WasCopied, copied_job}
+use Rattle.far_events.specs.events.Copies.{EndsPadded}
+use Rattle.far_events.specs.events.Legal.{Legal}
+use Rattle.far_events.specs.events.Name.{after_naming}
+use Rattle.far_events.specs.events.namings.Evicts.{with_kept}
+use Rattle.far_events.specs.events.namings.Moves.{MayMove, after_move}
+use Rattle.far_events.specs.events.Naming.{naming_of, IsNaming, naming_row}
+use Rattle.far_events.specs.events.NewSpans.{IsNewSpan}
+use Rattle.far_events.specs.events.Step.{after, answer}
+use Rattle.far_events.specs.state.Jobs.{is_finished, job_said}
+use Rattle.far_events.specs.state.Law.{Law, IsStored, head_len, is_dirty}
+use Rattle.far_events.specs.state.State.{State, addr, put}
+use Rattle.far_events.proofs.Copied.{copied_fact, copied_test, none_copied_there}
+use Rattle.far_events.proofs.MadeNamings.{unbegun}
+use Rattle.far_events.proofs.Namings.{naming_only}
+use Rattle.far_events.proofs.Bounds.{span_len}
+use Rattle.far_events.proofs.Put.{put_other, put_same}
 use Rattle.far_hand.specs.Known.{IsKnown, Forgets, KnowsLeaving, StoresLeaving}
 use Rattle.far_hand.specs.Masked.{masked, AllFind, AllFindJobs}
 use Rattle.far_hand.proofs.Finding.{place_found}

@@ -9,10 +9,10 @@ use Rattle.far_word.specs.Header.{head_word}
 use Rattle.far_word.specs.Pointer.{read_of}
 use Rattle.far_word.proofs.HeaderLaws.{head_fits}
 use Rattle.far_word.proofs.PointerLaws.{read_says}
-use Rattle.far_core.specs.state.Law.{Law}
-use Rattle.far_core.specs.state.State.{State, put}
-use Rattle.far_core.proofs.KeepPlace.{header}
-use Rattle.far_core.proofs.Put.{put_both}
+use Rattle.far_events.specs.state.Law.{Law}
+use Rattle.far_events.specs.state.State.{State, put}
+use Rattle.far_events.proofs.Bounds.{header}
+use Rattle.far_events.proofs.Put.{put_both}
 use Rattle.far_hand.specs.Known.{IsKnown}
 use Rattle.far_hand.specs.Masked.{masked}
 use Rattle.far_hand.proofs.Reading.{known_word, header_known}

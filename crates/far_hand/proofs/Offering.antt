@@ -11,18 +11,18 @@ use Rattle.far_word.specs.Header.{head_word}
 use Rattle.far_word.specs.Job.{IsJob, job_word}
 use Rattle.far_word.specs.Pointer.{read_of}
 use Rattle.far_word.specs.Sizes.{words_for}
-use Rattle.far_core.specs.declared.event.Event.TheVariants.{Collect, Offer}
-use Rattle.far_core.specs.declared.event.Reply.{Reply}
-use Rattle.far_core.specs.declared.event.Reply.TheVariants.{Done, Word}
-use Rattle.far_core.specs.events.Collect.{collected}
-use Rattle.far_core.specs.events.Legal.{Legal}
-use Rattle.far_core.specs.events.Offer.{MayOffer, after_offer, offered}
-use Rattle.far_core.specs.events.Step.{after, answer}
+use Rattle.far_events.specs.declared.event.Event.TheVariants.{Collect, Offer}
+use Rattle.far_events.specs.declared.event.Reply.{Reply}
+use Rattle.far_events.specs.declared.event.Reply.TheVariants.{Done, Word}
+use Rattle.far_events.specs.events.Collect.{collected}
+use Rattle.far_events.specs.events.Legal.{Legal}
+use Rattle.far_events.specs.events.Offer.{MayOffer, after_offer, offered}
+use Rattle.far_events.specs.events.Step.{after, answer}
 use Rattle.far_core.specs.state.CoreState.{core_state}
-use Rattle.far_core.specs.state.Jobs.{near_place}
-use Rattle.far_core.specs.state.Law.{Law}
-use Rattle.far_core.specs.state.State.{State, addr, put}
-use Rattle.far_core.proofs.events.Offer.{offer_layout}
+use Rattle.far_events.specs.state.Jobs.{near_place}
+use Rattle.far_events.specs.state.Law.{Law}
+use Rattle.far_events.specs.state.State.{State, addr, put}
+use Rattle.far_events.proofs.events.Offer.{offer_layout}
 use Rattle.far_hand.specs.declared.beset.Beset.{Beset}
 use Rattle.far_hand.specs.BesetView.{beset_view}
 use Rattle.far_hand.specs.Masked.{masked, masked_word, word_at, is_counted, AllFind, AllFindJobs}

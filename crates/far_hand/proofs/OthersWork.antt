@@ -13,28 +13,28 @@ use Rattle.far_word.specs.Job.{job_of, job_word}
 use Rattle.far_word.specs.Mark.{position}
 use Rattle.far_word.specs.Pointer.{read_of}
 use Rattle.far_word.proofs.JobLaws.{job_back, job_says}
-use Rattle.far_core.specs.declared.event.Event.{Event}
-use Rattle.far_core.specs.declared.event.Event.TheVariants.{ReadEpoch, Open, Pin, Load, Store, Soil, Close, Adopt, Put, Name, See, Mark, Ask, Get, Clear, Advance, Look, Offer, PeekJob, SeeJob, Claim, ReadLength, Read, Write, Finish, Collect}
-use Rattle.far_core.specs.declared.event.Reply.{Reply}
-use Rattle.far_core.specs.declared.event.Reply.TheVariants.{Refused}
-use Rattle.far_core.specs.declared.event.Task.{Task}
-use Rattle.far_core.specs.events.Ask.{is_request}
-use Rattle.far_core.specs.events.Claim.{claimed}
-use Rattle.far_core.specs.events.Legal.{Legal}
-use Rattle.far_core.specs.events.Step.{after, answer, is_legal, step_of, data_word}
-use Rattle.far_core.specs.state.Jobs.{is_finished}
-use Rattle.far_core.specs.state.Law.{Law, is_dirty}
-use Rattle.far_core.specs.state.State.{State, addr, put}
-use Rattle.far_core.proofs.Calls.{word_behind}
-use Rattle.far_core.proofs.Cells.{map_mark}
-use Rattle.far_core.proofs.KeepJobs.{task_at}
+use Rattle.far_events.specs.declared.event.Event.{Event}
+use Rattle.far_events.specs.declared.event.Event.TheVariants.{ReadEpoch, Open, Pin, Load, Store, Soil, Close, Adopt, Put, Name, See, Mark, Ask, Get, Clear, Advance, Look, Offer, PeekJob, SeeJob, Claim, ReadLength, Read, Write, Finish, Collect}
+use Rattle.far_events.specs.declared.event.Reply.{Reply}
+use Rattle.far_events.specs.declared.event.Reply.TheVariants.{Refused}
+use Rattle.far_events.specs.declared.event.Task.{Task}
+use Rattle.far_events.specs.events.Ask.{is_request}
+use Rattle.far_events.specs.events.Claim.{claimed}
+use Rattle.far_events.specs.events.Legal.{Legal}
+use Rattle.far_events.specs.events.Step.{after, answer, is_legal, step_of, data_word}
+use Rattle.far_events.specs.state.Jobs.{is_finished}
+use Rattle.far_events.specs.state.Law.{Law, is_dirty}
+use Rattle.far_events.specs.state.State.{State, addr, put}
+use Rattle.far_events.proofs.Calls.{word_behind}
+use Rattle.far_events.proofs.Cells.{map_mark}
+use Rattle.far_events.proofs.JobPlaces.{task_at}
 use Rattle.far_core.proofs.Marking as marking
 use Rattle.far_core.proofs.Marking.{read_mark}
 use Rattle.far_core.proofs.Owing.{is_fact}
 use Rattle.far_core.proofs.events.Soil.{reads, soiled_word}
-use Rattle.far_core.proofs.Put.{put_both, put_other}
-use Rattle.far_core.proofs.Quieting.{quiet_fact, quiet_unheld}
-use Rattle.far_core.specs.events.Quiet.{is_quiet_cell}
+use Rattle.far_events.proofs.Put.{put_both, put_other}
+use Rattle.far_events.proofs.Quieting.{quiet_fact, quiet_unheld}
+use Rattle.far_events.specs.events.Quiet.{is_quiet_cell}
 use Rattle.far_hand.specs.Beside.{IsBeside}
 use Rattle.far_hand.specs.Finds.{Finds}
 use Rattle.far_hand.specs.FindsJob.{FindsJob}

@@ -5,18 +5,18 @@ use Rattle.far_log.specs.Spans.{head_len}
 use Rattle.std.proofs.lemmas.Bool.{false≢true}
 use Rattle.far_word.specs.declared.pointer.Place.{Place}
 use Rattle.far_word.specs.declared.sizes.TheConstants.{LOG_WORDS}
-use Rattle.far_core.specs.declared.event.Event.{Event}
-use Rattle.far_core.specs.declared.event.Event.TheVariants.{Get, Put}
-use Rattle.far_core.specs.declared.event.Reply.{Reply}
-use Rattle.far_core.specs.declared.event.Reply.TheVariants.{Done, Word}
-use Rattle.far_core.specs.events.Legal.{Legal}
-use Rattle.far_core.specs.events.Ranges.{with_copy, with_row}
-use Rattle.far_core.specs.events.Step.{after}
+use Rattle.far_events.specs.declared.event.Event.{Event}
+use Rattle.far_events.specs.declared.event.Event.TheVariants.{Get, Put}
+use Rattle.far_events.specs.declared.event.Reply.{Reply}
+use Rattle.far_events.specs.declared.event.Reply.TheVariants.{Done, Word}
+use Rattle.far_events.specs.events.Legal.{Legal}
+use Rattle.far_events.specs.events.Ranges.{with_copy, with_row}
+use Rattle.far_events.specs.events.Step.{after}
 use Rattle.far_core.specs.state.CoreState.{core_state}
-use Rattle.far_core.specs.state.State.{State, put}
-use Rattle.far_core.proofs.Put.{put_both}
+use Rattle.far_events.specs.state.State.{State, put}
+use Rattle.far_events.proofs.Put.{put_both}
 use Rattle.far_core.proofs.Ranges.{core_put}
-use Rattle.far_core.proofs.Rows.{row_last, row_none}
+use Rattle.far_events.proofs.Rows.{row_last, row_none}
 use mathlib.Core.Path.{fun_ext}
 use Rattle.far_hand.specs.declared.plain.Plain.{Plain}
 use Rattle.far_hand.specs.MayBe.{Made}

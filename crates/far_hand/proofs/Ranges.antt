@@ -3,12 +3,12 @@ use Rattle.std.proofs.Common.{◌≡◌, ℕ, zero, suc, ◌+◌, ◌*◌, ◌<�
 use Rattle.far_word.specs.declared.pointer.Place.{Place}
 use Rattle.far_word.specs.declared.sizes.TheConstants.{LOG_WORDS}
 use Rattle.far_word.specs.Bytes.{bytes_of}
-use Rattle.far_core.specs.declared.event.Event.{Event}
-use Rattle.far_core.specs.declared.event.Event.TheVariants.{Get, Put}
-use Rattle.far_core.specs.declared.event.Reply.{Reply}
-use Rattle.far_core.specs.events.Legal.{Legal}
-use Rattle.far_core.specs.state.State.{State, put}
-use Rattle.far_core.proofs.Put.{put_other, put_same}
+use Rattle.far_events.specs.declared.event.Event.{Event}
+use Rattle.far_events.specs.declared.event.Event.TheVariants.{Get, Put}
+use Rattle.far_events.specs.declared.event.Reply.{Reply}
+use Rattle.far_events.specs.events.Legal.{Legal}
+use Rattle.far_events.specs.state.State.{State, put}
+use Rattle.far_events.proofs.Put.{put_other, put_same}
 use Rattle.far_hand.specs.Came.{Came}
 use Rattle.far_hand.specs.Ranges.{CopiesRow, CopiesWord, HasRead, InTurn, IsPast, IsWithin, ReadsRow, ReadsWord, WritesRow, WritesWord}
 use Rattle.far_hand.proofs.ByteRows.{bytes_none, row_unpacked}

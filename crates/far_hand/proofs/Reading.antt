@@ -6,10 +6,10 @@ use mathlib.Core.Path.{fun_ext}
 use Rattle.far_word.specs.declared.sizes.TheConstants.{LOG_WORDS}
 use Rattle.far_word.specs.Sizes.{words_for}
 use Rattle.far_log.specs.Spans.{head_len}
-use Rattle.far_core.specs.events.Get.{after_get, with_free_log, IsVacant, MayFree}
-use Rattle.far_core.specs.state.Law.{Law}
-use Rattle.far_core.specs.state.State.{State, put}
-use Rattle.far_core.proofs.Put.{put_both, put_same, put_other, put_old}
+use Rattle.far_events.specs.events.Get.{after_get, with_free_log, IsVacant, MayFree}
+use Rattle.far_events.specs.state.Law.{Law}
+use Rattle.far_events.specs.state.State.{State, put}
+use Rattle.far_events.proofs.Put.{put_both, put_same, put_other, put_old}
 use Rattle.far_hand.specs.Beside.{uncopied}
 use Rattle.far_hand.specs.Known.{unknown, IsKnown, IsPaddedAt, Forgets}
 use Rattle.far_hand.specs.Masked.{masked, masked_word, AllFind, AllFindJobs, recounted}

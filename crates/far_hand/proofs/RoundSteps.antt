@@ -5,15 +5,14 @@ use Rattle.std.proofs.lemmas.Bool.{true≢false, true_from_ne_false}
 use Rattle.far_word.specs.declared.sizes.TheConstants.{CELLS, EPOCH_END}
 use Rattle.far_word.specs.Pointer.{read_of}
 use Rattle.far_word.specs.Scope.{scope_of}
-use Rattle.far_core.specs.events.Advance.{MayAdvance}
-use Rattle.far_core.specs.state.Law.{Law}
-use Rattle.far_core.specs.state.State.{State, put}
-use Rattle.far_core.proofs.Put.{put_both, put_same}
+use Rattle.far_events.specs.events.Advance.{MayAdvance}
+use Rattle.far_events.specs.state.Law.{Law}
+use Rattle.far_events.specs.state.State.{State, put}
+use Rattle.far_events.proofs.Put.{put_both, put_same}
 use Rattle.far_hand.specs.Finds.{Finds}
 use Rattle.far_hand.specs.Masked.{masked, AllFind, CountsOnRest}
-use Rattle.far_hand.specs.Quiet.{IsQuietBy, is_quiet}
+use Rattle.far_hand.specs.Quiet.{IsQuietBy, is_quiet, IsQuietNear}
 use Rattle.far_hand.specs.Rounds.{IsScopeAt, MayChoose}
-use Rattle.far_hand.specs.Quiet.{IsQuietNear}
 use Rattle.far_hand.proofs.Counting.{rests_more}
 use Rattle.far_hand.proofs.Finding.{near_found, near_known}
 use Rattle.far_hand.proofs.Masking.{moved_known, quiet_found}

@@ -2,11 +2,11 @@
 use Rattle.std.proofs.Common.{◌≡◌, ◌∙◌, ℕ, Bool, true, false, ap, sym}
 use Rattle.std.specs.Prelude.{if◌then◌else◌}
 use Rattle.std.proofs.Math.Logic.{∥∥₁_map}
-use Rattle.far_core.specs.declared.event.Event.TheVariants.{See}
-use Rattle.far_core.specs.declared.event.Reply.{Reply}
-use Rattle.far_core.specs.declared.event.Reply.TheVariants.{Word, Refused}
-use Rattle.far_core.specs.events.Step.{is_legal}
-use Rattle.far_core.specs.state.State.{State}
+use Rattle.far_events.specs.declared.event.Event.TheVariants.{See}
+use Rattle.far_events.specs.declared.event.Reply.{Reply}
+use Rattle.far_events.specs.declared.event.Reply.TheVariants.{Word, Refused}
+use Rattle.far_events.specs.events.Step.{is_legal}
+use Rattle.far_events.specs.state.State.{State}
 use Rattle.far_hand.specs.MayBe.{Tells}
 
 -- a legal reading leaves the state and answers the cell; a refused one answers no word

@@ -3,13 +3,13 @@ use Rattle.std.proofs.Common.{◌≡◌, ◌∙◌, ℕ, ◌<◌, Bool, true, fa
 use Rattle.std.proofs.lemmas.Bool.{cond_both, false_from_ne_true, true≢false}
 use Rattle.far_word.specs.Job.{job_of}
 use Rattle.far_word.specs.Sizes.{words_for}
-use Rattle.far_core.specs.declared.event.Event.{Event}
-use Rattle.far_core.specs.declared.event.Reply.{Reply}
-use Rattle.far_core.specs.declared.event.Reply.TheVariants.{Refused}
-use Rattle.far_core.specs.events.Step.{Fits, after, answer, is_legal, step_of}
-use Rattle.far_core.specs.state.Jobs.{is_finished}
-use Rattle.far_core.specs.state.Law.{Law, head_len}
-use Rattle.far_core.specs.state.State.{State, addr}
+use Rattle.far_events.specs.declared.event.Event.{Event}
+use Rattle.far_events.specs.declared.event.Reply.{Reply}
+use Rattle.far_events.specs.declared.event.Reply.TheVariants.{Refused}
+use Rattle.far_events.specs.events.Step.{Fits, after, answer, is_legal, step_of}
+use Rattle.far_events.specs.state.Jobs.{is_finished}
+use Rattle.far_events.specs.state.Law.{Law, head_len}
+use Rattle.far_events.specs.state.State.{State, addr}
 use Rattle.far_core.proofs.Owing.{is_fact, keeps}
 use Rattle.far_hand.specs.Beside.{beside}
 use Rattle.far_hand.specs.Finds.{marks_in}

@@ -1,10 +1,11 @@
 -- What owners and copiers do can be told by any core.
 use Rattle.std.proofs.Common.{◌≡◌, ◌∙◌, Bool, true, false, ap, refl}
 use Rattle.std.specs.Prelude.{◌||◌, not, is_some}
-use Rattle.far_core.specs.declared.event.Event.{Event}
-use Rattle.far_core.specs.declared.event.Event.TheVariants.{ReadEpoch, Open, Pin, Load, Store, Soil, Close, Adopt, Put, Name, See, Mark, Ask, Get, Clear, Advance, Look, Offer, PeekJob, SeeJob, Claim, ReadLength, Read, Write, Finish, Collect}
+use Rattle.far_events.specs.declared.event.Event.{Event}
+use Rattle.far_events.specs.declared.event.Event.TheVariants.{ReadEpoch, Open, Pin, Load, Store, Soil, Close, Adopt, Put, Name, See, Mark, Ask, Get, Clear, Advance, Look, Offer, PeekJob, SeeJob, Claim, ReadLength, Read, Write, Finish, Collect}
 use Rattle.far_core.specs.declared.machine.Core.{Core}
-use Rattle.far_core.specs.state.Kept.{is_naming, keeps_stored, tells}
+use Rattle.far_events.specs.events.Name.{is_naming}
+use Rattle.far_core.specs.state.Kept.{keeps_stored, tells}
 use Rattle.far_hand.specs.Makers.{is_others}
 
 or_true : (b : Bool) → (b || true) ≡ true

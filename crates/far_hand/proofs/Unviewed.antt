@@ -2,8 +2,8 @@
 use Rattle.std.proofs.Common.{◌≡◌, ◌∙◌, ℕ, ◌/◌, ◌<◌, true, ap}
 use Rattle.std.specs.Prelude.{is_some}
 use Rattle.far_word.specs.declared.sizes.TheConstants.{CELLS}
-use Rattle.far_core.specs.state.Law.{Law}
-use Rattle.far_core.specs.state.State.{State}
+use Rattle.far_events.specs.state.Law.{Law}
+use Rattle.far_events.specs.state.State.{State}
 use Rattle.far_hand.specs.MayBe.{NoneViews, ViewsNone}
 
 pub clear_views_none : (s : State) → Law s → (m : ℕ) → s.clear m ≡ true → ViewsNone s.round m s

@@ -1,10 +1,10 @@
 -- What a beset hand's book knows of the core, and what a call of the hand is.
 use Rattle.std.specs.Prelude.{◌≡◌, ◌+◌, ℕ, Option, Some, None, slice_get}
-use Rattle.far_core.specs.declared.event.Event.{Event}
-use Rattle.far_core.specs.declared.event.Reply.{Reply}
+use Rattle.far_events.specs.declared.event.Event.{Event}
+use Rattle.far_events.specs.declared.event.Reply.{Reply}
 use Rattle.far_core.specs.state.CoreState.{core_state}
-use Rattle.far_core.specs.state.Law.{Law}
-use Rattle.far_core.specs.state.State.{State}
+use Rattle.far_events.specs.state.Law.{Law}
+use Rattle.far_events.specs.state.State.{State}
 use Rattle.far_hand.specs.declared.beset.Beset.{Beset}
 use Rattle.far_hand.specs.Masked.{masked, word_at, is_counted}
 use Rattle.far_hand.specs.MayBe.{Made, MayBeBeside, Shows, Tells, beside_itself}

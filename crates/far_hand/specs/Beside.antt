@@ -1,6 +1,6 @@
 -- What others change of a state while a book works on it: one definition, which all that leaves it out or lets it change cites.
 use Rattle.std.specs.Prelude.{◌≡◌, ℕ, false, None}
-use Rattle.far_core.specs.state.State.{Copying, State}
+use Rattle.far_events.specs.state.State.{Copying, State}
 
 -- what is copied, with what copiers alone have as others has it: what they copy, and what they have read and written of it
 abbrev pub with_copiers : Copying → Copying → Copying

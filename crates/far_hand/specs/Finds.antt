@@ -4,7 +4,7 @@ use Rattle.far_word.specs.declared.mark.Marks.{Marks}
 use Rattle.far_word.specs.declared.pointer.PtrWord.{PtrWord}
 use Rattle.far_word.specs.declared.pointer.PtrWord.TheVariants.{Free, Near, Far}
 use Rattle.far_word.specs.Pointer.{read_of}
-use Rattle.far_core.specs.events.Naming.{no_marks}
+use Rattle.far_events.specs.events.Naming.{no_marks}
 
 -- the marks of what a word says; none, where it is free or no pointer
 abbrev pub marks_in : Option PtrWord → Marks

@@ -4,8 +4,8 @@ use Rattle.far_word.specs.declared.job.Job.{Job}
 use Rattle.far_word.specs.declared.job.JobWord.{JobWord}
 use Rattle.far_word.specs.declared.job.JobWord.TheVariants.{Empty, Offered, Taken, Finished}
 use Rattle.far_word.specs.Job.{job_of}
-use Rattle.far_core.specs.state.Jobs.{is_finished}
-use Rattle.far_core.specs.state.State.{State, put}
+use Rattle.far_events.specs.state.Jobs.{is_finished}
+use Rattle.far_events.specs.state.State.{State, put}
 
 -- what a word says, but for how far its job has come: the job, if there is one
 abbrev pub without_progress : JobWord → Option Job

@@ -4,12 +4,12 @@ use Rattle.far_word.specs.Sizes.{words_for}
 use Rattle.far_log.specs.Spans.{head_len}
 use Rattle.far_word.specs.Pointer.{read_of}
 use Rattle.far_word.specs.declared.pointer.Place.{Place}
-use Rattle.far_core.specs.declared.naming.Naming.TheVariants.{Evicts}
-use Rattle.far_core.specs.events.Naming.{IsNaming}
-use Rattle.far_core.specs.declared.event.Event.TheVariants.{Name}
-use Rattle.far_core.specs.events.Step.{after}
-use Rattle.far_core.specs.state.Law.{IsStored, is_dirty}
-use Rattle.far_core.specs.state.State.{State, addr}
+use Rattle.far_events.specs.declared.naming.Naming.TheVariants.{Evicts}
+use Rattle.far_events.specs.events.Naming.{IsNaming}
+use Rattle.far_events.specs.declared.event.Event.TheVariants.{Name}
+use Rattle.far_events.specs.events.Step.{after}
+use Rattle.far_events.specs.state.Law.{IsStored, is_dirty}
+use Rattle.far_events.specs.state.State.{State, addr}
 
 -- what stands in a view at an address of which nothing is known: no word, and another number at each address, so that two
 -- unknown words are never said to be equal

@@ -7,11 +7,11 @@ use Rattle.far_word.specs.declared.pointer.PtrWord.TheVariants.{Near}
 use Rattle.far_word.specs.Job.{job_of}
 use Rattle.far_word.specs.Pointer.{read_of}
 use Rattle.far_word.specs.Sizes.{words_for}
-use Rattle.far_core.specs.declared.event.Event.{Event}
-use Rattle.far_core.specs.events.Step.{step_of}
-use Rattle.far_core.specs.state.Jobs.{is_finished, job_at, job_words}
-use Rattle.far_core.specs.state.Law.{is_dirty}
-use Rattle.far_core.specs.state.State.{State, addr}
+use Rattle.far_events.specs.declared.event.Event.{Event}
+use Rattle.far_events.specs.events.Step.{step_of}
+use Rattle.far_events.specs.state.Jobs.{is_finished, job_at, job_words}
+use Rattle.far_events.specs.state.Law.{is_dirty}
+use Rattle.far_events.specs.state.State.{State, addr}
 use Rattle.far_hand.specs.Beside.{IsBeside}
 use Rattle.far_hand.specs.Finds.{Finds}
 use Rattle.far_hand.specs.FindsJob.{FindsJob}

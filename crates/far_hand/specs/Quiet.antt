@@ -7,8 +7,8 @@ use Rattle.far_word.specs.declared.pointer.PtrWord.TheVariants.{Free, Near, Far}
 use Rattle.far_word.specs.declared.sizes.TheConstants.{CELLS, LOG_WORDS}
 use Rattle.far_word.specs.Pointer.{read_of}
 use Rattle.far_word.specs.Sizes.{words_for}
-use Rattle.far_core.specs.state.State.{State, addr}
-pub use Rattle.far_core.specs.events.Quiet.{is_quiet}
+use Rattle.far_events.specs.state.State.{State, addr}
+pub use Rattle.far_events.specs.events.Quiet.{is_quiet}
 
 -- a word of a log is a data word of the object that a pointer's cell names, and the object is quiet
 abbrev pub is_quiet_word : (ℕ → Bool) → (ℕ → Bool) → ℕ → Option PtrWord → ℕ → ℕ → Bool

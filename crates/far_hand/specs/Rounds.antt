@@ -3,11 +3,11 @@ use Rattle.std.specs.Prelude.{◌≡◌, ◌<◌, ◌≤◌, ◌||◌, ℕ, true
 use Rattle.far_word.specs.declared.scope.ScopeWord.TheVariants as scoped
 use Rattle.far_word.specs.Pointer.{read_of}
 use Rattle.far_word.specs.Scope.{scope_of}
-use Rattle.far_core.specs.declared.event.Kind.TheVariants.{Sealed}
-use Rattle.far_core.specs.events.Advance.{is_among}
-use Rattle.far_core.specs.events.Look.{shows_clear}
-use Rattle.far_core.specs.state.Law.{HasEvac}
-use Rattle.far_core.specs.state.State.{State, put}
+use Rattle.far_events.specs.declared.event.Kind.TheVariants.{Sealed}
+use Rattle.far_events.specs.events.Advance.{is_among}
+use Rattle.far_events.specs.events.Look.{shows_clear}
+use Rattle.far_events.specs.state.Law.{HasEvac}
+use Rattle.far_events.specs.state.State.{State, put}
 
 -- these logs may be the round's: each is sealed, and whatever lies there has EVAC, also under DROP
 pub record MayChoose (s : State) (logs : ℕ) : Type 0 where

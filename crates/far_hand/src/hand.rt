@@ -7,14 +7,14 @@ ghost use Rattle.far_word.specs.declared.sizes.TheConstants.{EPOCH_END, LOG_WORD
 ghost use Rattle.far_word.specs.Bytes.{packed_word};
 ghost use Rattle.far_word.specs.Mark.{position};
 ghost use Rattle.far_word.specs.Pointer.{read_of};
-ghost use Rattle.far_core.specs.declared.event.Event.{Event as any_event};
-ghost use Rattle.far_core.specs.declared.event.Reply.{Reply as any_reply};
-ghost use Rattle.far_core.specs.events.Legal.{Legal};
-ghost use Rattle.far_core.specs.events.Step.{after};
-ghost use Rattle.far_core.specs.state.Jobs.{near_place};
-ghost use Rattle.far_core.specs.state.Law.{Law};
-ghost use Rattle.far_core.specs.state.Shape.{is_shape};
-ghost use Rattle.far_core.specs.state.State.{State, put};
+ghost use Rattle.far_events.specs.declared.event.Event.{Event as any_event};
+ghost use Rattle.far_events.specs.declared.event.Reply.{Reply as any_reply};
+ghost use Rattle.far_events.specs.events.Legal.{Legal};
+ghost use Rattle.far_events.specs.events.Step.{after};
+ghost use Rattle.far_events.specs.state.Jobs.{near_place};
+ghost use Rattle.far_events.specs.state.Law.{Law};
+ghost use Rattle.far_events.specs.state.Shape.{is_shape};
+ghost use Rattle.far_events.specs.state.State.{State, put};
 ghost use Rattle.far_hand.specs.Cleared.{cleared};
 ghost use Rattle.far_hand.specs.Finds.{Finds};
 ghost use Rattle.far_hand.specs.FindsJob.{FindsJob, job_found};
@@ -89,18 +89,29 @@ pub trait Near {
     /// The word is known from then on where it was, or where the view shows it to be a data word of a quiet object, and nowhere else: an
     /// owner may store into it, or a copier write there. As a log is given back, words may be forgotten.
     fn get(&mut self, log: u8, at: u16, free: bool) -> u64
+        // the log may be read there, or, with `free`, be given back
         requires legal { Legal (view self.old) (Event.Get log at free) }
+
+        // a known word is answered as it is known, and a data word of a span has zeros behind the object's last byte
         ensures known { IsKnown ((view self.old).word (log * LOG_WORDS + at)) → result ≡ (view self.old).word (log * LOG_WORDS + at) }
         ensures padding { IsPaddedAt (view self.old) (log * LOG_WORDS + at) result }
+
+        // without `free`: the word is known from then on where its object is quiet, or where it was, and nowhere else; all others stay as they are known
         ensures read { free ≡ false → IsQuietAt (view self.old) (log * LOG_WORDS + at) → view self.new ≡ record (view self.old) { word = put (view self.old).word (log * LOG_WORDS + at) result } }
         ensures kept { free ≡ false → IsKnown ((view self.old).word (log * LOG_WORDS + at)) → view self.new ≡ view self.old }
         ensures unread { free ≡ false → ¬ IsQuietAt (view self.old) (log * LOG_WORDS + at) → view self.new ≡ view self.old }
         ensures here { free ≡ false → IsKnown ((view self.new).word (log * LOG_WORDS + at)) → (view self.new).word (log * LOG_WORDS + at) ≡ result }
         ensures others { free ≡ false → (a : ℕ) → a ≢ log * LOG_WORDS + at → (view self.new).word a ≡ (view self.old).word a }
+
+        // with `free` words may be forgotten; besides words all is as by the event
         ensures forgot { free ≡ true → Forgets (view self.old) (view self.new) }
         ensures rest { view self.new ≡ record (after (view self.old) (Event.Get log at free)) { word = (view self.new).word } }
+
+        // over a hand that is still it is the word as it was known, and all is just as by the event
         ensures exact { still → result ≡ (view self.old).word (log * LOG_WORDS + at) }
         ensures set { still → view self.new ≡ after (view self.old) (Event.Get log at free) }
+
+        // the call was this one event, with this reply
         ensures made { makes self.old (Event.Get log at free) (Reply.Word result) self.new };
 
     /// Word `at` of a log that is open or free, at or past its tail, becomes `word`, and is known from then on.
@@ -163,17 +174,26 @@ pub trait Near {
     /// forgotten then. Else `Err` with the word that was found, and nothing has changed. Of an object with DIRTY that
     /// goes far all data words are known before.
     fn name(&mut self, pointer: u16, old: u64, new: u64) -> Result<(), u64>
+        // the view has the cell so, which may get the new word, and knows the words of an object with DIRTY that goes far by it
         requires seen { old ≡ (view self.old).cell pointer }
         requires legal { Legal (view self.old) (Event.Name pointer old new) }
         requires known { KnowsLeaving (view self.old) old new }
+
+        // done: the cell has the new word, and all is as by the event, but that words may be forgotten; an object that goes far has its words stored
         ensures done { IfOk result (λ _. view self.new ≡ record (after (view self.old) (Event.Name pointer old new)) { word = (view self.new).word; stored = (view self.new).stored }) }
         ensures stored { IfOk result (λ _. StoresLeaving (view self.old) (view self.new) pointer old new) }
         ensures forgot { IfOk result (λ _. Forgets (view self.old) (view self.new)) }
+
+        // else another word was found, the known one with marks more; the view knows it, and nothing else has changed
         ensures other { IfErr result (λ found. found ≢ old) }
         ensures found { IfErr result (λ found. Finds old found) }
         ensures kept { IfErr result (λ found. view self.new ≡ record (view self.old) { cell = put (view self.old).cell pointer found }) }
+
+        // over a hand that is still it is always done, and all is just as by the event
         ensures won { still → IfErr result (λ _. ⊥) }
         ensures set { still → view self.new ≡ after (view self.old) (Event.Name pointer old new) }
+
+        // the call was this one event, with this reply
         ensures made { IfOk result (λ _. makes self.old (Event.Name pointer old new) Reply.Done self.new) }
         ensures lost { IfErr result (λ found. makes self.old (Event.Name pointer old new) (Reply.Word found) self.new) };
 
@@ -223,14 +243,23 @@ pub trait Near {
     /// A job goes from `old`, the word last found there, which is offered or finished, to empty, where it still is `old`. Else
     /// `Err` with the word that was found, and nothing has changed: of a finished job that can't be.
     fn collect(&mut self, job: u8, old: u64) -> Result<(), u64>
+        // the view has the job so, which is offered or finished
         requires seen { old ≡ (view self.old).copying.word job }
         requires legal { Legal (view self.old) (Event.Collect job old) }
+
+        // done: the job is empty, and nothing else has changed
         ensures done { IfOk result (λ _. view self.new ≡ after (view self.old) (Event.Collect job old)) }
+
+        // else another word was found, by what copiers have made of the job; the view knows it, and nothing else has changed
         ensures other { IfErr result (λ found. found ≢ old) }
         ensures found { IfErr result (λ found. FindsJob old found) }
         ensures kept { IfErr result (λ found. view self.new ≡ job_found (view self.old) job found) }
+
+        // over a hand that is still it is always done
         ensures won { still → IfErr result (λ _. ⊥) }
         ensures set { still → view self.new ≡ after (view self.old) (Event.Collect job old) }
+
+        // the call was this one event, with this reply
         ensures made { IfOk result (λ _. makes self.old (Event.Collect job old) Reply.Done self.new) }
         ensures lost { IfErr result (λ found. makes self.old (Event.Collect job old) (Reply.Word found) self.new) };
 

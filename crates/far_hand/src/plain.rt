@@ -2,7 +2,7 @@
 
 ghost use Rattle.std.specs.Prelude.{◌≡◌, ◌+◌, ◌<◌, true, false};
 ghost use Rattle.far_core.specs.state.CoreState.{core_state};
-ghost use Rattle.far_core.specs.state.Shape.{is_shape};
+ghost use Rattle.far_events.specs.state.Shape.{is_shape};
 ghost use Rattle.far_hand.specs.MayBe.{Made, alone_lawful, alone_shown, alone_there, alone_told};
 ghost use Rattle.far_hand.specs.ShapeOf.{shape_of};
 

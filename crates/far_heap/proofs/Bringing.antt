@@ -4,9 +4,9 @@ use Rattle.std.proofs.lemmas.Bool.{false≢true}
 use Rattle.far_word.specs.declared.pointer.Place.{Place}
 use Rattle.far_word.specs.declared.refused.Refused.{Refused}
 use Rattle.far_device.specs.declared.fault.DeviceFault.{DeviceFault}
-use Rattle.far_core.specs.declared.event.Event.TheVariants.{See}
-use Rattle.far_core.specs.declared.event.Reply.TheVariants.{Word}
-use Rattle.far_core.specs.events.Naming.{is_dropped}
+use Rattle.far_events.specs.declared.event.Event.TheVariants.{See}
+use Rattle.far_events.specs.declared.event.Reply.TheVariants.{Word}
+use Rattle.far_events.specs.events.Naming.{is_dropped}
 use Rattle.far_hand.specs.Came.{Came}
 use Rattle.far_hand.proofs.Closure.{first_call, then_came}
 use Rattle.far_table.specs.declared.book.BookSeat.{BookSeat}

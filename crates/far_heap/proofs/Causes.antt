@@ -10,7 +10,7 @@ use Rattle.far_word.specs.declared.refused.Refused.TheVariants.{Damaged, Device,
 use Rattle.far_word.specs.Pointer.{read_of}
 use Rattle.far_word.specs.Sizes.{size_of}
 use Rattle.far_core.specs.state.Room.{room}
-use Rattle.far_core.specs.state.State.{State}
+use Rattle.far_events.specs.state.State.{State}
 use Rattle.far_hand.specs.Finds.{body_of, marks_in}
 use Rattle.far_hand.specs.MayBe.{Shows}
 use Rattle.far_table.specs.declared.book.BookSeat.{BookSeat}
@@ -21,8 +21,8 @@ use Rattle.far_book.specs.book.Ledger.{IsLowestFree}
 use Rattle.far_book.proofs.region.Founds.{free_found, free_known}
 use Rattle.far_book.proofs.region.Retires.{retired_is}
 use Rattle.far_book.specs.book.Effects.{retired}
-use Rattle.far_core.proofs.Put.{put_same}
-use Rattle.far_core.specs.events.Naming.{is_dropped}
+use Rattle.far_events.proofs.Put.{put_same}
+use Rattle.far_events.specs.events.Naming.{is_dropped}
 use Rattle.far_evac.specs.EvacOf.{EvacOf}
 use Rattle.far_heap.specs.BookHad.{BookHad, HasNowhere, HasRoom, IsCause, IsFreed, LacksRoom, MayCome, NoneFree, Places, Unbrought}
 use Rattle.far_heap.specs.Helping.{PlacesNew, asks_move, core_of, says_far}

@@ -1,6 +1,6 @@
 -- What the device is, in each state that the words may be in.
 use Rattle.std.proofs.Common.{◌≡◌, true, sym, ap, ◌∙◌}
-use Rattle.far_core.specs.state.State.{State}
+use Rattle.far_events.specs.state.State.{State}
 use Rattle.far_hand.specs.MayBe.{Shows}
 
 pub honest_shown : (o x : State) → Shows o x → x.honest ≡ true → o.honest ≡ true

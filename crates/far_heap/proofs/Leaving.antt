@@ -9,10 +9,10 @@ use Rattle.far_word.specs.declared.refused.Refused.TheVariants.{Damaged, Device,
 use Rattle.far_word.specs.Pointer.{read_of}
 use Rattle.far_device.specs.declared.fault.DeviceFault.{DeviceFault}
 use Rattle.far_device.specs.declared.fault.DeviceFault.TheVariants as fault
-use Rattle.far_core.specs.declared.event.Event.TheVariants.{See}
-use Rattle.far_core.specs.declared.event.Reply.TheVariants.{Word}
-use Rattle.far_core.specs.state.State.{State, put}
-use Rattle.far_core.proofs.Put.{put_same}
+use Rattle.far_events.specs.declared.event.Event.TheVariants.{See}
+use Rattle.far_events.specs.declared.event.Reply.TheVariants.{Word}
+use Rattle.far_events.specs.state.State.{State, put}
+use Rattle.far_events.proofs.Put.{put_same}
 use Rattle.far_hand.specs.Came.{Came}
 use Rattle.far_hand.specs.Finds.{Finds, body_of}
 use Rattle.far_hand.proofs.Closure.{first_call, then_came}

@@ -5,7 +5,7 @@ use Rattle.std.proofs.lemmas.Bool.{cases_eq, eq-eqb, ne_eqb, false≢true}
 use Rattle.std.proofs.lemmas.List.{set-get_or}
 use Rattle.far_word.specs.declared.pointer.Place.{Place}
 use Rattle.far_word.specs.declared.sizes.TheConstants.{CELLS}
-use Rattle.far_core.proofs.Put.{put_other, put_same}
+use Rattle.far_events.proofs.Put.{put_other, put_same}
 use Rattle.far_table.specs.View.{ObjectView}
 use Rattle.far_table.specs.Seats.{Seated}
 use Rattle.far_table.specs.Views.{asked_at, closed_view, ds_of as seat_ds, held_at, held_view, len_of as seat_len, object_at, soiled_at, uses as seat_uses, warmed_view}

@@ -1,9 +1,9 @@
 -- A book that came of another by its own calls is of the same heap.
 use Rattle.std.proofs.Common.{◌≡◌, Bool, ap, sym, subst, ◌∙◌}
-use Rattle.far_core.specs.declared.event.Event.{Event}
-use Rattle.far_core.specs.declared.event.Reply.{Reply}
-use Rattle.far_core.specs.declared.event.Reply.TheVariants.{Done, Epoch, Held, Refused, Word}
-use Rattle.far_core.specs.state.State.{State}
+use Rattle.far_events.specs.declared.event.Event.{Event}
+use Rattle.far_events.specs.declared.event.Reply.{Reply}
+use Rattle.far_events.specs.declared.event.Reply.TheVariants.{Done, Epoch, Held, Refused, Word}
+use Rattle.far_events.specs.state.State.{State}
 use Rattle.far_core.proofs.Owing.{owed}
 use Rattle.far_hand.specs.Came.{Came}
 use Rattle.far_hand.proofs.Closure.{came_keeps}

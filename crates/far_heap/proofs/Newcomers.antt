@@ -2,15 +2,15 @@
 use Rattle.std.proofs.Common.{◌≡◌, ℕ, ◌*◌, ◌/◌, Bool, false, cond, Option, Some, None, is_some, refl, ap, ◌∙◌, inl, inr, arith}
 use Rattle.std.proofs.lemmas.Bool.{cases_eq}
 use Rattle.far_word.specs.declared.sizes.TheConstants.{CELLS}
-use Rattle.far_core.specs.declared.shape.Shape.{Shape}
-use Rattle.far_core.specs.events.Open.{scope_word_of}
-use Rattle.far_core.specs.state.Opening.{opening}
+use Rattle.far_events.specs.declared.shape.Shape.{Shape}
+use Rattle.far_events.specs.events.Open.{scope_word_of}
+use Rattle.far_events.specs.state.Opening.{opening}
 use Rattle.far_table.specs.View.{OwnerView}
 use Rattle.far_table.specs.Seats.{Seated}
 use Rattle.far_table.specs.Stands.{SaysOwner}
-use Rattle.far_core.specs.events.Quiet.{has_move}
-use Rattle.far_core.proofs.Cells.{unused}
-use Rattle.far_core.specs.state.State.{State}
+use Rattle.far_events.specs.events.Quiet.{has_move}
+use Rattle.far_events.proofs.Cells.{unused}
+use Rattle.far_events.specs.state.State.{State}
 use Rattle.far_table.specs.First.{first_owner}
 use Rattle.far_table.specs.Views.{asked_at, moves, object_at, soiled_at}
 use Rattle.far_table.proofs.FirstViews.{first_asked, first_soiled, over_beside}

@@ -6,7 +6,7 @@ use Rattle.std.proofs.lemmas.List.{length-replicate, get_or-replicate, get_or_pa
 use Rattle.atomic_table.specs.Seated.{TableId}
 use Rattle.far_word.specs.declared.pointer.Place.{Place}
 use Rattle.far_word.specs.declared.sizes.TheConstants.{CELLS, LONGEST, MOST_MUTATORS, POINTERS}
-use Rattle.far_core.proofs.Put.{put_other, put_same}
+use Rattle.far_events.proofs.Put.{put_other, put_same}
 use Rattle.far_table.specs.View.{OwnerView}
 use Rattle.far_table.specs.Seats.{Seated}
 use Rattle.far_table.specs.Views.{closed_view, ds_of as seat_ds, held_at, held_view, len_of as seat_len, noted_view, object_at, soiled_at, soiled_view, uses as seat_uses, warmed_view}

@@ -3,8 +3,8 @@ use Rattle.std.specs.Prelude.{◌≡◌, ◌+◌, ◌<◌, ◌≤◌, ℕ, Bool,
 use Rattle.std.specs.List.{range_with_len}
 use Rattle.atomic_table.specs.Seated.{TableId}
 use Rattle.far_word.specs.declared.sizes.TheConstants.{MOST_MUTATORS}
-use Rattle.far_core.specs.declared.event.Kind.TheVariants.{Free, Open}
-use Rattle.far_core.specs.state.State.{State}
+use Rattle.far_events.specs.declared.event.Kind.TheVariants.{Free, Open}
+use Rattle.far_events.specs.state.State.{State}
 use Rattle.far_table.specs.declared.book.BookSeat.{BookSeat}
 use Rattle.far_table.specs.Seats.{Seated}
 use Rattle.far_book.specs.book.BookOf.{BookOf}

@@ -2,8 +2,8 @@
 use Rattle.std.specs.Prelude.{◌≡◌, ◌+◌, ℕ, zero, suc, Bool, ◌&&◌, nat_lt, nat_le, None, List, [], ◌∷◌, length}
 use Rattle.atomic_table.specs.Seated.{TableId}
 use Rattle.far_word.specs.declared.sizes.TheConstants.{MOST_COPIERS}
-use Rattle.far_core.specs.declared.event.Event.TheVariants.{Finish}
-use Rattle.far_core.specs.declared.event.Reply.TheVariants.{Done}
+use Rattle.far_events.specs.declared.event.Event.TheVariants.{Finish}
+use Rattle.far_events.specs.declared.event.Reply.TheVariants.{Done}
 use Rattle.far_table.specs.CopierViews.{finished_view}
 use Rattle.far_table.specs.CopySeats.{CopiedNext, CopyJob, IsCopied, IsJobOf, copied_on}
 use Rattle.far_table.specs.Seats.{CopierSeated}

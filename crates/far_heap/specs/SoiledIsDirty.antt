@@ -1,8 +1,8 @@
 -- What an open scope has soiled has DIRTY in its cell.
 use Rattle.std.specs.Prelude.{◌≡◌, ℕ, true}
 use Rattle.far_word.specs.Pointer.{read_of}
-use Rattle.far_core.specs.state.Law.{is_dirty}
-use Rattle.far_core.specs.state.State.{State}
+use Rattle.far_events.specs.state.Law.{is_dirty}
+use Rattle.far_events.specs.state.State.{State}
 use Rattle.far_table.specs.Seats.{Seated}
 use Rattle.far_table.specs.Tells.{HasState, OwnerMayBe}
 use Rattle.far_heap.specs.HeapId.{HeapId}

@@ -1,6 +1,6 @@
 // A heap before it is begun.
 ghost use Rattle.std.specs.Prelude.{◌≡◌, ◌↔◌, [], false, cond, Err, IfOk, IfErr};
-ghost use Rattle.far_core.specs.state.Shape.{is_shape};
+ghost use Rattle.far_events.specs.state.Shape.{is_shape};
 ghost use Rattle.far_hand.specs.ShapeOf.{shape_of};
 ghost use Rattle.far_table.specs.BookSeats.{seat_view};
 ghost use Rattle.far_heap.specs.Blanks.{IsUnused};

@@ -2,7 +2,7 @@
 
 ghost use Rattle.std.specs.Prelude.{◌≡◌, true, false, None, IfOk, IfErr};
 ghost use Rattle.far_word.specs.declared.sizes.TheConstants.{JOBS};
-ghost use Rattle.far_core.specs.state.State.{State};
+ghost use Rattle.far_events.specs.state.State.{State};
 ghost use Rattle.far_table.specs.CopySeats.{Claimed, CopiedNext, IsCopied, IsTakenBy, MissedFirst, OnlyLooked, copied_on};
 ghost use Rattle.far_table.specs.Tells.{CopierMayBe, CopierStands};
 ghost use Rattle.far_heap.specs.Copiers.{Finishes, IsAtWork, IsFree};

@@ -4,9 +4,9 @@ ghost use Rattle.std.specs.Prelude.{◌≡◌, ◌*◌, ◌<◌, ℕ, [], false,
 ghost use Rattle.far_word.specs.declared.refused.Refused.TheVariants.{Memory};
 ghost use Rattle.far_word.specs.declared.sizes.TheConstants.{CELLS};
 ghost use Rattle.far_core.specs.laws.Jobs.{JobsStand};
-ghost use Rattle.far_core.specs.state.Law.{Law};
-ghost use Rattle.far_core.specs.state.Shape.{is_shape};
-ghost use Rattle.far_core.specs.state.State.{State};
+ghost use Rattle.far_events.specs.state.Law.{Law};
+ghost use Rattle.far_events.specs.state.Shape.{is_shape};
+ghost use Rattle.far_events.specs.state.State.{State};
 ghost use Rattle.far_hand.specs.MayBe.{NoneViews, ViewsNone};
 ghost use Rattle.far_hand.specs.ShapeOf.{shape_of};
 ghost use Rattle.far_table.specs.BookSeats.{seat_makes, seat_may_be, seat_view};
@@ -104,15 +104,22 @@ impl<K: HeapName, D: Device + Drop> Evacuator<K, D> {
     /// has its source's words. The device holds bytes of its length of each far object, and of each near one without DIRTY: if the far side is honest, those that were
     /// stored, and of a near one its own; and the device is honest if the owners are told that the far side is. And there is such a state.
     pub fn keeps_law(&self)
+        // the book is of the heap that the name names, and it and its round keep their laws
         ensures named { heap_of self.now.copying self.now.book.near ≡ K.heap }
         ensures law { Law (own_part (seat_view self.now.book.near)) }
         ensures moment { MomentLaw (moment seat_view self.now) }
+
+        // in each state that the words may be in, objects and logs are whole, no log is given out in which an owner holds a place, and none is free that a job needs
         ensures whole { (x : State) → seat_may_be self.now.book.near x → IsWhole x }
         ensures kept { (x : State) → seat_may_be self.now.book.near x → NoneIsGivenOut x }
         ensures jobs { (x : State) → seat_may_be self.now.book.near x → JobsStand x }
+
+        // there the device holds each far object's bytes, and of each near one without DIRTY its own; it is honest where the far side is said to be
         ensures far { (x : State) → seat_may_be self.now.book.near x → HoldsFar x (D.contents self.now.book.device) }
         ensures own { (x : State) → seat_may_be self.now.book.near x → HoldsOwn x (D.contents self.now.book.device) }
         ensures honest { (x : State) → seat_may_be self.now.book.near x → x.honest ≡ true → D.honest self.now.book.device ≡ true }
+
+        // and there is such a state
         ensures there { ∥ ((x : State) × seat_may_be self.now.book.near x) ∥₁ }
     {
         self.stands();

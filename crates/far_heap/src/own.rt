@@ -2,9 +2,9 @@
 ghost use Rattle.std.specs.Prelude.{◌≡◌, ◌+◌, ◌<◌, ◌≤◌, ℕ, true, false, length, slice_range, cond, None, Some, IfOk, IfErr, IfSome, IsSome};
 ghost use Rattle.far_table.specs.Views.{said_ds, said_len};
 ghost use Rattle.far_word.specs.Pointer.{read_of};
-ghost use Rattle.far_core.specs.events.Quiet.{has_move};
-ghost use Rattle.far_core.specs.declared.event.Event.TheVariants.{Adopt};
-ghost use Rattle.far_core.specs.declared.event.Reply.TheVariants.{Word};
+ghost use Rattle.far_events.specs.events.Quiet.{has_move};
+ghost use Rattle.far_events.specs.declared.event.Event.TheVariants.{Adopt};
+ghost use Rattle.far_events.specs.declared.event.Reply.TheVariants.{Word};
 ghost use Rattle.far_heap.specs.Made.{FindsOther, MadeBy, Pinned, RefusedBy};
 ghost use Rattle.far_heap.specs.MineLaw.{MineLaw};
 ghost use Rattle.far_heap.specs.LogsStay.{LogsStay};

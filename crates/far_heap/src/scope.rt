@@ -133,16 +133,26 @@ impl<K: HeapName, D: Device + Drop> Scope<K, D> {
     /// found a word on which no view may rest.
     #[inline(always)]
     pub fn view<R: Wait>(&mut self, rt: &R, p: u16) -> Result<View, Refused>
+        // refused: a pointer that isn't used, or an object that couldn't be brought; MOVE may have been set anew, only where there was no room
         ensures refused { IfErr result (λ why. IsNoView self.old p why × Asks p self.old self.new) }
         ensures unasked { IfErr result (λ why. (why ≡ NoRoom) ⊎ (self.new ≡ self.old)) }
+
+        // done: the mutator uses the pointer, and views the object
         ensures viewed { IfOk result (λ view. (uses self.old p ≡ true) × (view ≡ view_of p self.old) × AsksToView p self.old self.new) }
+
+        // why it wasn't brought: the book had no room, or so the device answered one read; `Memory` never where it reads in place, `Damaged` only where the far side
+        // isn't honest
         ensures cause { uses self.old p ≡ true → IfErr result (λ why. BookHad D K.heap (Unbrought p why)) }
         ensures answered { uses self.old p ≡ true → IfErr result (IsAnswered D K.heap D.reads p) }
         ensures in_place { D.reads_in_place → result ≢ Err Memory }
         ensures damaged { result ≡ Err Damaged → self.old.honest ≡ false }
+
+        // what is viewed already is the answer at once; else one pin viewed it, or found a word on which no view may rest, as always before a refusal
         ensures again { views self.old p ≡ true → (result ≡ Ok (view_of p self.old)) × (self.new ≡ self.old) }
         ensures quick { views self.old p ≡ false → IfOk result (λ _. (self.new ≡ viewing p self.old) ⊎ IsFoundSlow p self.old) }
         ensures slow { uses self.old p ≡ true → IfErr result (λ _. IsFoundSlow p self.old) }
+
+        // what a pin didn't view the book brought last: it fetched this object, or looked at it again and moved it
         ensures brought { views self.old p ≡ false → IfOk result (λ _. Pinned p self.old (Tried.View (view_of p self.old)) self.new ⊎ BookDid D K.heap (BringsSo D.contents D.honest D.faults D.fails_at_most D.lets_go D.forgets D.reads D.reads_in_place p true)) }
     {
         let tried = match self.own.try_view(p) {

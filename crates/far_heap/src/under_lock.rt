@@ -25,14 +25,21 @@ fn place<K: HeapName, D: Device + Drop>(
     len: u16,
     ds: u8,
 ) -> Result<u16, Refused>
+    // one of the heap's mutators, and a length that an object may have
     requires one { owner < K.heap.mutators }
     requires some { 0 < len }
     requires most { len ≤ LONGEST }
+
+    // the pointer is the mutator's; refused for want of a pointer or of room
     ensures own { IfOk result (λ p. p / CELLS ≡ owner) }
     ensures refused { IfErr result (λ why. (why ≡ NoPointer) ⊎ (why ≡ NoRoom)) }
+
+    // as the lock was held that was the lowest free one, and there was room; else just that was lacking for which it's refused
     ensures had { IfOk result (λ p. BookHad D K.heap (HasRoom owner len p)) }
     ensures none { result ≡ Err NoPointer → BookHad D K.heap (NoneFree owner) }
     ensures full { result ≡ Err NoRoom → BookHad D K.heap (LacksRoom owner len) }
+
+    // the object was placed, and nothing more; refused, book and round are as before
     ensures does { Places owner len ds result book.old book.new }
     ensures did { BookDid D K.heap (Places owner len ds result) }
 {
@@ -115,15 +122,22 @@ pub(crate) fn view<K: HeapName, D: Device + Drop, R: Wait>(
     own: &mut Own<K, D>,
     p: u16,
 ) -> Brought
+    // the mutator's scope is open, it uses the pointer, and doesn't view its object
     requires one { own.old.number < K.heap.mutators }
     requires opened { own.old.opened ≡ true }
     requires used { uses own.old p ≡ true }
     requires unviewed { views own.old p ≡ false }
+
+    // refused: the book had no room, or so the device answered one read; `Memory` never where it reads in place
     ensures refused { IfSome (refusal_of result) (λ why. IsUnbrought why × Asks p own.old own.new) }
     ensures cause { IfSome (refusal_of result) (λ why. BookHad D K.heap (Unbrought p why)) }
     ensures answered { IfSome (refusal_of result) (IsAnswered D K.heap D.reads p) }
     ensures in_place { D.reads_in_place → refusal_of result ≢ Some Memory }
+
+    // MOVE was set anew only where there was no room
     ensures unasked { IfSome (refusal_of result) (λ why. (why ≡ NoRoom) ⊎ (own.new ≡ own.old)) }
+
+    // done: the mutator views it, and the last that the book did was to fetch it, or to look at it again and move it
     ensures viewed { IfNone (refusal_of result) (AsksToView p own.old own.new) }
     ensures brought { IfNone (refusal_of result) (BookDid D K.heap (BringsSo D.contents D.honest D.faults D.fails_at_most D.lets_go D.forgets D.reads D.reads_in_place p true)) }
 {
@@ -151,19 +165,27 @@ fn bring<K: HeapName, D: Device + Drop>(
     own: &mut Own<K, D>,
     p: u16,
 ) -> Result<bool, Refused>
+    // the mutator's scope is open, it uses the pointer, and doesn't view its object
     requires one { own.old.number < K.heap.mutators }
     requires opened { own.old.opened ≡ true }
     requires used { uses own.old p ≡ true }
     requires unviewed { views own.old p ≡ false }
+
+    // refused: the book has no room, or so the device answered one read, `Memory` never where it reads in place; all is left but marks that were found, and
+    // MOVE was set anew only where there was no room
     ensures refused { IfErr result (λ why. IsUnbrought why × Asks p own.old own.new × ((why ≡ NoRoom) ⊎ (own.new ≡ own.old))) }
     ensures cause { IfErr result (λ why. BookHad D K.heap (Unbrought p why)) }
     ensures left { IfErr result (λ why. LeavesIt D.reads p why book.old book.new) }
     ensures answered { IfErr result (IsAnswered D K.heap D.reads p) }
     ensures in_place { D.reads_in_place → result ≢ Err Memory }
+
+    // true: the book has fetched it, or looked at it again and moved it, and the mutator views it; false: it doesn't view it, brought or not
     ensures viewed { result ≡ Ok true → AsksToView p own.old own.new }
     ensures slow { result ≡ Ok false → Asks p own.old own.new }
     ensures did { IfOk result (λ viewed. BringsSo D.contents D.honest D.faults D.fails_at_most D.lets_go D.forgets D.reads D.reads_in_place p true book.old book.new ⊎ ((viewed ≡ false) × BringsSo D.contents D.honest D.faults D.fails_at_most D.lets_go D.forgets D.reads D.reads_in_place p false book.old book.new)) }
     ensures brought { result ≡ Ok true → BookDid D K.heap (BringsSo D.contents D.honest D.faults D.fails_at_most D.lets_go D.forgets D.reads D.reads_in_place p true) }
+
+    // the round stands where it stood
     ensures round { SameRound book.old book.new }
 {
     book.keeps_law();
@@ -200,16 +222,25 @@ fn fetch_or_move<K: HeapName, D: Device + Drop>(
     own: &mut Own<K, D>,
     p: u16,
 ) -> Result<bool, Refused>
+    // the mutator uses the pointer, and doesn't view its object
     requires one { own.old.number < K.heap.mutators }
     requires used { uses own.old p ≡ true }
     requires unviewed { views own.old p ≡ false }
+
+    // refused: the book has no room, or the device failed one read, with `Memory` never where it reads in place; all is left but marks that were found
     ensures refused { IfErr result (λ why. IsUnbrought why × ((why ≡ NoRoom) ⊎ (own.new ≡ own.old))) }
     ensures cause { IfErr result (λ why. BookHad D K.heap (Unbrought p why)) }
     ensures left { IfErr result (λ why. LeavesIt D.reads p why book.old book.new) }
     ensures in_place { D.reads_in_place → result ≢ Err Memory }
+
+    // true: the last that the book did was to bring the object; MOVE may have been set anew, if it's refused only for want of room
     ensures brought { result ≡ Ok true → IsBrought D.contents D.honest D.faults D.fails_at_most D.lets_go D.forgets D.reads D.reads_in_place book.new p }
     ensures asks { Asks p own.old own.new }
+
+    // done: the object was fetched, or looked at again and moved, or looked at twice, as the answer says
     ensures did { IfOk result (λ so. BringsSo D.contents D.honest D.faults D.fails_at_most D.lets_go D.forgets D.reads D.reads_in_place p so book.old book.new) }
+
+    // the round stands where it stood
     ensures round { SameRound book.old book.new }
 {
     if let Some(fetched) = book.fetch_far(p) {

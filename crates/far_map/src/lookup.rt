@@ -67,15 +67,22 @@ pub fn find<O: Objects + Drop>(
     tag: u64,
     key: &[u8],
 ) -> Result<Option<Found>, Refused>
+    // the tag is the key's, and the table is as it should be
     requires some { IsTag tag }
     requires tag { tag ≡ tag_of parts.old.near.seed key.now }
     requires sound { Sound (plain (O.far parts.old.worker) parts.old.near) }
+
+    // table and worker are as they were
     ensures far { O.far parts.new.worker ≡ O.far parts.old.worker }
     ensures near { parts.new.near ≡ parts.old.near }
+
+    // done: a slot with the tag; if the worker is honest its object has the key, the buffer begins with its bytes, and none is found only as no slot has it
     ensures stands { IfOk result (λ r. IfSome r (Stands tag parts.old.near.slots)) }
     ensures none { (O.far parts.old.worker).honest ≡ true → IfOk result (λ r. IfNone r ((i : ℕ) → key_at (O.far parts.old.worker).bytes parts.old.near.slots i ≢ Some key.now)) }
     ensures read { (O.far parts.old.worker).honest ≡ true → IfOk result (λ r. IfSome r (λ p. (O.far parts.old.worker).bytes p.number ≡ Some (take p.len parts.new.buffer))) }
     ensures is { (O.far parts.old.worker).honest ≡ true → IfOk result (λ r. IfSome r (λ p. key_in ((O.far parts.old.worker).bytes p.number) ≡ Some key.now)) }
+
+    // refused only as an object wasn't reached
     ensures why { IfErr result (O.unreached (O.far parts.old.worker).honest) }
 {
     let home = home_of(parts.near.buckets, tag);

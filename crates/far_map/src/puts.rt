@@ -24,14 +24,21 @@ pub fn put_new<O: Objects + Drop>(
     key: &[u8],
     value: &[u8],
 ) -> Result<(), Refused>
+    // key and value make an entry, the tag is the key's, the table is as it should be, and no slot has the key
     requires entry { is_entry key.now value.now ≡ true }
     requires some { IsTag tag }
     requires tag { tag ≡ tag_of parts.old.near.seed key.now }
     requires sound { Sound (plain (O.far parts.old.worker) parts.old.near) }
     requires absent { (O.far parts.old.worker).honest ≡ true → (i : ℕ) → key_at (O.far parts.old.worker).bytes parts.old.near.slots i ≢ Some key.now }
+
+    // the table is as it should be, and the worker as honest as it was
     ensures sound { Sound (plain (O.far parts.new.worker) parts.new.near) }
     ensures honest { (O.far parts.new.worker).honest ≡ (O.far parts.old.worker).honest }
+
+    // done, if the worker is honest: the key has this value, and no other entry has changed
     ensures ok { (O.far parts.old.worker).honest ≡ true → OnOk result ((table_of (plain (O.far parts.new.worker) parts.new.near)).entries ≡ map.insert (table_of (plain (O.far parts.old.worker) parts.old.near)).entries key.now value.now) }
+
+    // refused for want of memory, or as no object was made: the entries are as they were
     ensures err { OnErr result (table_of (plain (O.far parts.new.worker) parts.new.near) ≡ table_of (plain (O.far parts.old.worker) parts.old.near)) }
     ensures why { IfErr result (λ why. (why ≡ Refused.Memory) ⊎ O.unmade why) }
 {
@@ -49,15 +56,22 @@ pub fn put_again<O: Objects + Drop>(
     key: &[u8],
     value: &[u8],
 ) -> Result<(), Refused>
+    // key and value make an entry, the tag is the key's, the table is as it should be, and the key's entry stands at the place
     requires entry { is_entry key.now value.now ≡ true }
     requires some { IsTag tag }
     requires tag { tag ≡ tag_of parts.old.near.seed key.now }
     requires sound { Sound (plain (O.far parts.old.worker) parts.old.near) }
     requires stands { Stands tag parts.old.near.slots at }
     requires has { (O.far parts.old.worker).honest ≡ true → key_in ((O.far parts.old.worker).bytes at.number) ≡ Some key.now }
+
+    // the table is as it should be, and the worker as honest as it was
     ensures sound { Sound (plain (O.far parts.new.worker) parts.new.near) }
     ensures honest { (O.far parts.new.worker).honest ≡ (O.far parts.old.worker).honest }
+
+    // done, if the worker is honest: the key has this value, and no other entry has changed
     ensures ok { (O.far parts.old.worker).honest ≡ true → OnOk result ((table_of (plain (O.far parts.new.worker) parts.new.near)).entries ≡ map.insert (table_of (plain (O.far parts.old.worker) parts.old.near)).entries key.now value.now) }
+
+    // refused for want of memory, or as no object was made or an object wasn't reached: the entries are as they were
     ensures err { OnErr result (table_of (plain (O.far parts.new.worker) parts.new.near) ≡ table_of (plain (O.far parts.old.worker) parts.old.near)) }
     ensures why { IfErr result (λ why. (why ≡ Refused.Memory) ⊎ (O.unmade why ⊎ O.unreached (O.far parts.old.worker).honest why)) }
 {
@@ -87,15 +101,22 @@ fn rewrite<O: Objects + Drop>(
     key: &[u8],
     value: &[u8],
 ) -> Result<(), Refused>
+    // key and value make an entry, of which the value isn't empty, as long as the object at the place, which has this key; the table is as it should be
     requires entry { is_entry key.now value.now ≡ true }
     requires more { 0 < length value.now }
     requires long { (O.far parts.old.worker).sizes at.number ≡ Some (2 + length key.now + length value.now) }
     requires sound { Sound (plain (O.far parts.old.worker) parts.old.near) }
     requires stands { Stands tag parts.old.near.slots at }
     requires has { (O.far parts.old.worker).honest ≡ true → key_in ((O.far parts.old.worker).bytes at.number) ≡ Some key.now }
+
+    // the table is as it should be, and the worker as honest as it was
     ensures sound { Sound (plain (O.far parts.new.worker) parts.new.near) }
     ensures honest { (O.far parts.new.worker).honest ≡ (O.far parts.old.worker).honest }
+
+    // done, if the worker is honest: the key has this value, and no other entry has changed
     ensures ok { (O.far parts.old.worker).honest ≡ true → OnOk result ((table_of (plain (O.far parts.new.worker) parts.new.near)).entries ≡ map.insert (table_of (plain (O.far parts.old.worker) parts.old.near)).entries key.now value.now) }
+
+    // refused only as the object wasn't reached: the entries are as they were
     ensures err { OnErr result (table_of (plain (O.far parts.new.worker) parts.new.near) ≡ table_of (plain (O.far parts.old.worker) parts.old.near)) }
     ensures why { IfErr result (O.unreached (O.far parts.old.worker).honest) }
 {
@@ -111,15 +132,22 @@ fn renew<O: Objects + Drop>(
     key: &[u8],
     value: &[u8],
 ) -> Result<(), Refused>
+    // key and value make an entry, the tag is the key's, the table is as it should be, and the key's entry stands at the place
     requires entry { is_entry key.now value.now ≡ true }
     requires some { IsTag tag }
     requires tag { tag ≡ tag_of parts.old.near.seed key.now }
     requires sound { Sound (plain (O.far parts.old.worker) parts.old.near) }
     requires stands { Stands tag parts.old.near.slots at }
     requires has { (O.far parts.old.worker).honest ≡ true → key_in ((O.far parts.old.worker).bytes at.number) ≡ Some key.now }
+
+    // the table is as it should be, and the worker as honest as it was
     ensures sound { Sound (plain (O.far parts.new.worker) parts.new.near) }
     ensures honest { (O.far parts.new.worker).honest ≡ (O.far parts.old.worker).honest }
+
+    // done, if the worker is honest: the key has this value, and no other entry has changed
     ensures ok { (O.far parts.old.worker).honest ≡ true → OnOk result ((table_of (plain (O.far parts.new.worker) parts.new.near)).entries ≡ map.insert (table_of (plain (O.far parts.old.worker) parts.old.near)).entries key.now value.now) }
+
+    // refused for want of memory, or as no object was made: the entries are as they were
     ensures err { OnErr result (table_of (plain (O.far parts.new.worker) parts.new.near) ≡ table_of (plain (O.far parts.old.worker) parts.old.near)) }
     ensures why { IfErr result (λ why. (why ≡ Refused.Memory) ⊎ O.unmade why) }
 {

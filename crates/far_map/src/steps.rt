@@ -33,15 +33,22 @@ pub fn add<O: Objects + Drop>(
     key: &[u8],
     value: &[u8],
 ) -> Result<(), Refused>
+    // the bytes are the entry of key and value, and no more than an object has; the tag is the key's, the table is as it should be, and no slot has the key
     requires some { IsTag tag }
     requires tag { tag ≡ tag_of parts.old.near.seed key.now }
     requires bytes { bytes.now ≡ encoded key.now value.now }
     requires fits { is_length (length bytes.now) ≡ true }
     requires sound { Sound (plain (O.far parts.old.worker) parts.old.near) }
     requires absent { (O.far parts.old.worker).honest ≡ true → (i : ℕ) → key_at (O.far parts.old.worker).bytes parts.old.near.slots i ≢ Some key.now }
+
+    // the table is as it should be, and the worker as honest as it was
     ensures sound { Sound (plain (O.far parts.new.worker) parts.new.near) }
     ensures honest { (O.far parts.new.worker).honest ≡ (O.far parts.old.worker).honest }
+
+    // done, if the worker is honest: the key has this value, and no other entry has changed
     ensures ok { (O.far parts.old.worker).honest ≡ true → OnOk result ((table_of (plain (O.far parts.new.worker) parts.new.near)).entries ≡ map.insert (table_of (plain (O.far parts.old.worker) parts.old.near)).entries key.now value.now) }
+
+    // refused for want of memory, or as no object was made: the entries are as they were
     ensures err { OnErr result (table_of (plain (O.far parts.new.worker) parts.new.near) ≡ table_of (plain (O.far parts.old.worker) parts.old.near)) }
     ensures why { IfErr result (λ why. (why ≡ Refused.Memory) ⊎ O.unmade why) }
 {
@@ -80,6 +87,8 @@ pub fn replace<O: Objects + Drop>(
     key: &[u8],
     value: &[u8],
 ) -> Result<(), Refused>
+    // the bytes are the entry of key and value, and no more than an object has; the tag is the key's, the table is as it should be, and the key's
+    // entry stands at the place
     requires some { IsTag tag }
     requires tag { tag ≡ tag_of parts.old.near.seed key.now }
     requires bytes { bytes.now ≡ encoded key.now value.now }
@@ -87,9 +96,15 @@ pub fn replace<O: Objects + Drop>(
     requires sound { Sound (plain (O.far parts.old.worker) parts.old.near) }
     requires stands { Stands tag parts.old.near.slots at }
     requires has { (O.far parts.old.worker).honest ≡ true → key_in ((O.far parts.old.worker).bytes at.number) ≡ Some key.now }
+
+    // the table is as it should be, and the worker as honest as it was
     ensures sound { Sound (plain (O.far parts.new.worker) parts.new.near) }
     ensures honest { (O.far parts.new.worker).honest ≡ (O.far parts.old.worker).honest }
+
+    // done, if the worker is honest: the key has this value, and no other entry has changed
     ensures ok { (O.far parts.old.worker).honest ≡ true → OnOk result ((table_of (plain (O.far parts.new.worker) parts.new.near)).entries ≡ map.insert (table_of (plain (O.far parts.old.worker) parts.old.near)).entries key.now value.now) }
+
+    // refused only as no object was made: the entries are as they were
     ensures err { OnErr result (table_of (plain (O.far parts.new.worker) parts.new.near) ≡ table_of (plain (O.far parts.old.worker) parts.old.near)) }
     ensures why { IfErr result O.unmade }
 {

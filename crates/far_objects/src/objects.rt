@@ -50,14 +50,15 @@ pub trait Objects {
     /// Reads bytes of an object, from one on, as many as `out` has.
     ///
     /// Refused, in this order: [`Refused::NotHeld`] exactly where there is no object, [`Refused::Range`] exactly where `out` has no byte or
-    /// they pass its end, and then as `unreached` says.
+    /// they pass its end, and then as `unreached` says. `out` is as it was then.
     fn read(&mut self, number: u32, from: usize, out: &mut [u8]) -> Result<(), Refused>
         ensures same { far self.new ≡ far self.old }
         ensures long { length out.new ≡ length out.old }
         ensures read { OnOk result (IfSome ((far self.old).bytes number) (λ bytes. out.new ≡ take (length out.old) (drop from bytes))) }
         ensures done { OnOk result (barred ((far self.old).sizes number) from (length out.old) ≡ None) }
         ensures barred { (why : Refusal) → barred ((far self.old).sizes number) from (length out.old) ≡ Some why → result ≡ Err why }
-        ensures why { IfErr result (λ why. IsWhyUnreached unreached (far self.old).honest (barred ((far self.old).sizes number) from (length out.old)) why) };
+        ensures why { IfErr result (λ why. IsWhyUnreached unreached (far self.old).honest (barred ((far self.old).sizes number) from (length out.old)) why) }
+        ensures kept { OnErr result (out.new ≡ out.old) };
 
     /// Writes bytes over those of an object, from one on. Refused as [`Objects::read`] is.
     fn write(&mut self, number: u32, from: usize, bytes: &[u8]) -> Result<(), Refused>

@@ -93,6 +93,7 @@ pub fn read<O: Objects + Drop>(
     ensures done { OnOk result (barred ((far_of (O.far parts.old.worker) (table parts.old.near)).sizes number) from (length out.old) ≡ None) }
     ensures barred { (why : Refusal) → barred ((far_of (O.far parts.old.worker) (table parts.old.near)).sizes number) from (length out.old) ≡ Some why → result ≡ Err why }
     ensures why { IfErr result (λ why. IsWhyUnreached O.unreached (O.far parts.old.worker).honest (barred ((far_of (O.far parts.old.worker) (table parts.old.near)).sizes number) from (length out.old)) why) }
+    ensures kept { OnErr result (out.new ≡ out.old) }
 {
     let found = match find(&parts.near, number, from, out.len()) {
         Ok(found) => found,

@@ -152,6 +152,7 @@ impl<D: Device + Drop> Counted<D> {
         ensures why { IfErr result (λ why. IsWhyNoAccess self.old.honest (refusal_of (object_on self.old pointer) from (length out.old)) why) }
         ensures fault { refusal_of (object_on self.old pointer) from (length out.old) ≡ None → IfErr result (λ why. IsFault why) }
         ensures given { IfErr result (λ why. IsNotGiven D D.reads pointer (len_of (object_on self.old pointer)) why) }
+        ensures kept { OnErr result (out.new ≡ out.old) }
     {
         self.heap.read(pointer, from, out)
     }
@@ -200,6 +201,7 @@ impl<D: Device + Drop> Counted<D> {
         ensures why { IfErr result (λ why. IsWhyNoAccess self.old.honest (refusal_of (found self.old pointer generation) from (length out.old)) why) }
         ensures fault { refusal_of (found self.old pointer generation) from (length out.old) ≡ None → IfErr result (λ why. IsFault why) }
         ensures given { IfErr result (λ why. IsNotGiven D D.reads pointer (len_of (found self.old pointer generation)) why) }
+        ensures kept { OnErr result (out.new ≡ out.old) }
     {
         if !self.knows(pointer, generation) {
             return Err(Refused::NotHeld);
@@ -273,13 +275,22 @@ impl<D: Device + Drop> Counted<D> {
         bytes: &mut [u8],
         change: F,
     ) -> Result<(), Refused>
+        // `change` may be called on whatever is read
         requires takes { (read : List ℕ) → length read ≡ length bytes.old → FnOnceTakesAtMut F.FnOnce change read }
+
+        // done: `change` was called once, on what was read, and this object's range has what it made of that; nothing else has changed
         ensures changed { OnOk result (UpdatesOn (FnOnceReturnsAtMut F.FnOnce change) pointer generation from (length bytes.old) bytes.new self.old self.new) }
         ensures known { OnOk result ((generation_on self.old pointer ≡ generation) × (pointer < length self.old.objects) × (pointer < length self.old.generations)) }
+
+        // refused: nothing has changed, nor have the bytes
         ensures refused { OnErr result (self.new ≡ self.old) }
         ensures kept { OnErr result (bytes.new ≡ bytes.old) }
+
+        // a pointer without this object and a wrong range are refused as such
         ensures done { OnOk result (refusal_of (found self.old pointer generation) from (length bytes.old) ≡ None) }
         ensures barred { (why : Refusal) → refusal_of (found self.old pointer generation) from (length bytes.old) ≡ Some why → result ≡ Err why }
+
+        // else it's refused only by the outside: no room, in three logs or more, as the device refused an object, or as it didn't give this one
         ensures why { IfErr result (λ why. IsWhyNoAccess self.old.honest (refusal_of (found self.old pointer generation) from (length bytes.old)) why) }
         ensures room { result ≡ Err NoRoom → 3 ≤ self.old.logs → IsNotTaken D D.writes (object_on self.old) }
         ensures given { IfErr result (λ why. IsNotGiven D D.reads pointer (len_of (found self.old pointer generation)) why) }

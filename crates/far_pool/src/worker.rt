@@ -308,7 +308,7 @@ impl<D: Device + Drop, M: MakeDevice<D> + Drop> Worker<D, M> {
     ///
     /// Refused, in this order: [`Refused::NotHeld`] exactly where the worker hasn't got the object, as of a handle whose object was dropped; [`Refused::Range`] exactly
     /// where `out` has no byte or they pass the object's end; and then only [`Refused::Memory`] or [`Refused::Device`] where the device, asked for this object, failed so,
-    /// and [`Refused::Damaged`] where it gave more or fewer bytes, which no honest one does.
+    /// and [`Refused::Damaged`] where it gave more or fewer bytes, which no honest one does. `out` is as it was then.
     #[inline(always)]
     pub fn read(&mut self, handle: Handle, from: usize, out: &mut [u8]) -> Result<(), Refused>
         ensures same { self.new ≡ self.old }
@@ -319,6 +319,7 @@ impl<D: Device + Drop, M: MakeDevice<D> + Drop> Worker<D, M> {
         ensures why { IfErr result (λ why. IsWhyNoAccess self.old.honest (refusal_of (at self.old handle) from (length out.old)) why) }
         ensures fault { refusal_of (at self.old handle) from (length out.old) ≡ None → IfErr result (λ why. IsFault why) }
         ensures given { IfErr result (λ why. IsNotGiven D D.reads handle.pointer (len_at self.old handle) why) }
+        ensures kept { OnErr result (out.new ≡ out.old) }
     {
         self.parts.accesses = self.parts.accesses.wrapping_add(1);
         let at = handle.heap as usize;

@@ -1,8 +1,8 @@
 -- A heap at its start.
 use Rattle.std.proofs.Common.{◌≡◌, ℕ, Bool, ap, ◌∙◌, None}
-use Rattle.far_core.specs.declared.shape.Shape.{Shape}
-use Rattle.far_core.specs.state.Opening.{opening, without_copiers}
-use Rattle.far_core.specs.state.State.{State}
+use Rattle.far_events.specs.declared.shape.Shape.{Shape}
+use Rattle.far_events.specs.state.Opening.{opening, without_copiers}
+use Rattle.far_events.specs.state.State.{State}
 use Rattle.far_core.specs.world.World.{World, start}
 use Rattle.far_core.specs.world.WorldOf.{world_of}
 use Rattle.far_private.specs.Objects.{Settled, objects_of, seen}

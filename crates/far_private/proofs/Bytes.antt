@@ -8,23 +8,23 @@ use Rattle.far_word.specs.declared.pointer.Place.{Place}
 use Rattle.far_word.specs.declared.sizes.TheConstants.{CELLS, LONGEST}
 use Rattle.far_word.specs.Bytes.{packed_word}
 use Rattle.far_word.specs.Pointer.{read_of}
-use Rattle.far_core.specs.declared.event.Event.{Event}
-use Rattle.far_core.specs.declared.event.Event.TheVariants.{Soil, Store}
-use Rattle.far_core.specs.declared.event.Reply.{Reply}
-use Rattle.far_core.specs.events.Legal.{HoldsObject, Legal}
-use Rattle.far_core.specs.events.Ranges.{AllLegal, after_events, stores}
-use Rattle.far_core.specs.events.Soil.{after_soil}
-use Rattle.far_core.specs.events.Step.{after, data_len, data_word, is_legal, step_of}
-use Rattle.far_core.specs.events.Written.{written_words}
-use Rattle.far_core.specs.state.Law.{Law}
-use Rattle.far_core.specs.state.State.{State, put}
+use Rattle.far_events.specs.declared.event.Event.{Event}
+use Rattle.far_events.specs.declared.event.Event.TheVariants.{Soil, Store}
+use Rattle.far_events.specs.declared.event.Reply.{Reply}
+use Rattle.far_events.specs.events.Legal.{HoldsObject, Legal}
+use Rattle.far_events.specs.events.Ranges.{AllLegal, after_events, stores}
+use Rattle.far_events.specs.events.Soil.{after_soil}
+use Rattle.far_events.specs.events.Step.{after, data_len, data_word, is_legal, step_of}
+use Rattle.far_events.specs.events.Written.{written_words}
+use Rattle.far_events.specs.state.Law.{Law}
+use Rattle.far_events.specs.state.State.{State, put}
 use Rattle.far_core.specs.world.Steps.{with_bytes}
 use Rattle.far_core.specs.world.World.{Object as Thing}
 use Rattle.far_core.specs.world.WorldOf.{world_of}
-use Rattle.far_core.proofs.Bounds.{some_of}
-use Rattle.far_core.proofs.Cells.{IsHeld, held_near}
+use Rattle.far_events.proofs.Bounds.{some_of}
+use Rattle.far_events.proofs.Cells.{IsHeld, held_near}
 use Rattle.far_core.proofs.Owing.{is_test}
-use Rattle.far_core.proofs.Put.{put_both, put_other, put_same}
+use Rattle.far_events.proofs.Put.{put_both, put_other, put_same}
 use Rattle.far_alone.specs.EventRows.{AllSucceed}
 use Rattle.far_alone.specs.Events.{first_word, store_events, words_touched}
 use Rattle.far_alone.specs.Objects.{data_of, object_len, with_range}

@@ -4,11 +4,11 @@ use Rattle.std.proofs.lemmas.Bool.{cases_eq}
 use Rattle.far_word.specs.declared.pointer.Place.{Place}
 use Rattle.far_word.specs.declared.sizes.TheConstants.{CELLS, LONGEST}
 use Rattle.far_word.specs.Sizes.{size_of}
-use Rattle.far_core.specs.events.Legal.{IsClosed}
-use Rattle.far_core.specs.events.NewObjects.{made_with}
-use Rattle.far_core.specs.state.Law.{Law}
+use Rattle.far_events.specs.events.Legal.{IsClosed}
+use Rattle.far_events.specs.events.NewObjects.{made_with}
+use Rattle.far_events.specs.state.Law.{Law}
 use Rattle.far_core.specs.state.Room.{room}
-use Rattle.far_core.specs.state.State.{State}
+use Rattle.far_events.specs.state.State.{State}
 use Rattle.far_core.proofs.NewObjects.{MayMake, cold, cold_is, law_over, law_taken, made_cold, made_empty, may_make, named, named_is, over, rests_over, taken}
 use Rattle.far_alone.proofs.Spliced.{AreBytes}
 use Rattle.far_private.specs.Looks.{IsFresh}

@@ -1,6 +1,6 @@
 -- A range of an object that was read, changed and written.
 use Rattle.std.proofs.Common.{◌≡◌, ℕ, ap, ◌∙◌, List}
-use Rattle.far_core.specs.state.State.{State}
+use Rattle.far_events.specs.state.State.{State}
 use Rattle.far_private.specs.Changes.{Changes}
 use Rattle.far_private.specs.Objects.{IsRead, Objects, objects_of, with_written}
 use Rattle.far_private.specs.Steps.{Keeps}

@@ -10,10 +10,10 @@ use Rattle.far_word.specs.declared.pointer.PtrWord.TheVariants.{Free, Near, Far}
 use Rattle.far_word.specs.declared.sizes.TheConstants.{CELLS}
 use Rattle.far_word.specs.Mark.{marks_with}
 use Rattle.far_word.specs.Pointer.{read_of}
-use Rattle.far_core.specs.events.Naming.{unmarked}
-use Rattle.far_core.specs.state.Law.{Law, is_dirty}
-use Rattle.far_core.specs.state.State.{State}
-use Rattle.far_core.proofs.Put.{put_other}
+use Rattle.far_events.specs.events.Naming.{unmarked}
+use Rattle.far_events.specs.state.Law.{Law, is_dirty}
+use Rattle.far_events.specs.state.State.{State}
+use Rattle.far_events.proofs.Put.{put_other}
 use Rattle.far_book.specs.book.Dealing.{has_evac, moved_now, order_moved}
 use Rattle.far_book.specs.book.Effects.{moved, order_after, stayed}
 use Rattle.far_book.specs.book.Laws.{IsUnmarked}

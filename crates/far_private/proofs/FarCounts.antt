@@ -13,8 +13,8 @@ use Rattle.far_word.specs.declared.sizes.TheConstants.{CELLS}
 use Rattle.far_word.specs.Pointer.{read_of}
 use Rattle.far_word.proofs.ByteLaws.{length-bytes_of}
 use Rattle.far_word.proofs.PointerLaws.{read_says}
-use Rattle.far_core.specs.state.Law.{Law}
-use Rattle.far_core.specs.state.State.{State, addr}
+use Rattle.far_events.specs.state.Law.{Law}
+use Rattle.far_events.specs.state.State.{State, addr}
 use Rattle.far_core.specs.world.World.{FarSide, Group, Object as Thing}
 use Rattle.far_core.specs.world.WorldOf.{object_of, world_of}
 use Rattle.far_private.specs.FarBytes.{AreFar, far_len, lies_far, room_of, said_far_len, says_far, says_here}

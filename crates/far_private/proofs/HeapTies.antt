@@ -9,8 +9,8 @@ use Rattle.std.proofs.lemmas.List.FromFn.{fill_by_all, get_or-map-range_with_len
 use Rattle.far_word.specs.declared.refused.Refused.{Refused}
 use Rattle.far_word.specs.declared.refused.Refused.TheVariants.{Damaged, Device, EpochsSpent, Length, Memory, NoPointer, NoRoom, NotHeld, Range}
 use Rattle.far_word.specs.declared.sizes.TheConstants.{LONGEST, POINTERS}
-use Rattle.far_core.specs.state.State.{put}
-use Rattle.far_core.proofs.Put.{put_other, put_same}
+use Rattle.far_events.specs.state.State.{put}
+use Rattle.far_events.proofs.Put.{put_other, put_same}
 use Rattle.far_private.specs.Objects as inner
 use Rattle.far_private.specs.Objects.{Object, Objects, rewritten}
 use Rattle.far_private.specs.Heap.{Heap, IsFull, IsOutside, IsWhyNoAccess, IsWhyNoObject, access_refusal, bytes_in, has, is_length, len_in, object, with_new, with_object, with_written, without}

@@ -1,7 +1,7 @@
 -- Steps that leave what callers see.
 use Rattle.std.proofs.Common.{◌≡◌, ℕ, true, refl, sym, ap, ◌∙◌, Bool, Option, Some, None}
 use mathlib.Core.Path.{fun_ext}
-use Rattle.far_core.specs.state.State.{State}
+use Rattle.far_events.specs.state.State.{State}
 use Rattle.far_core.specs.world.World.{Object as Thing}
 use Rattle.far_core.specs.world.WorldOf.{world_of}
 use Rattle.far_evac.specs.Owned.{KeepsObjects, anywhere}

@@ -10,13 +10,13 @@ use Rattle.far_word.specs.declared.pointer.PtrWord.{PtrWord}
 use Rattle.far_word.specs.declared.pointer.PtrWord.TheVariants.{Free, Near, Far}
 use Rattle.far_word.specs.Pointer.{read_of}
 use Rattle.far_word.specs.Sizes.{size_of}
-use Rattle.far_core.specs.declared.event.Kind.TheVariants as kinds
-use Rattle.far_core.specs.events.Naming.{no_marks}
-use Rattle.far_core.specs.state.Law.{Law}
+use Rattle.far_events.specs.declared.event.Kind.TheVariants as kinds
+use Rattle.far_events.specs.events.Naming.{no_marks}
+use Rattle.far_events.specs.state.Law.{Law}
 use Rattle.far_core.specs.state.Room.{room}
-use Rattle.far_core.specs.state.State.{State}
-use Rattle.far_core.proofs.Cells.{unused}
-use Rattle.far_core.proofs.Put.{put_other, put_same}
+use Rattle.far_events.specs.state.State.{State}
+use Rattle.far_events.proofs.Cells.{unused}
+use Rattle.far_events.proofs.Put.{put_other, put_same}
 use Rattle.far_book.specs.book.Dealing.{has_evac}
 use Rattle.far_book.proofs.region.EvictingLaw.{evicting}
 use Rattle.far_book.proofs.region.Owns.{own_law}
@@ -213,3 +213,7 @@ module _ (m : Moment) (law : Law m.core) (moment : MomentLaw m) (alone : m.copyi
       let h = (lifted_lawfully m (Emptying m) (empties_lawfully m) law moment alone leaves (begins_emptying m cold) n).2.keeps.1 in
       subst (AreEmptied m.core m.collection) (sym ended_core)
       record { many = h.many; free = λ l like. h.free l like (none_among (walked m n).moment.collection all_walked l); others = h.others }
+
+  -- the round is over then
+  pub walk_ends : (ended (walked m n)).phase ≡ Idle
+  walk_ends = ap (λ (b : Bool). (cond b (record (walked m n).moment { phase = Idle }) (walked m n).moment).phase) all_walked

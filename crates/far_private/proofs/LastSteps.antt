@@ -3,11 +3,11 @@ use Rattle.std.proofs.Common.{◌≡◌, ℕ, ◌<◌, ◌≤◌, sym, ap, subst
 use Rattle.std.specs.Prelude.{IfErr, IfOk}
 use Rattle.far_word.specs.declared.refused.Refused.{Refused}
 use Rattle.far_word.specs.declared.refused.Refused.TheVariants as refusals
-use Rattle.far_core.specs.state.Law.{Law}
-use Rattle.far_core.specs.state.State.{State}
+use Rattle.far_events.specs.state.Law.{Law}
+use Rattle.far_events.specs.state.State.{State}
 use Rattle.far_device.specs.declared.fault.DeviceFault.{DeviceFault}
 use Rattle.far_hand.specs.declared.plain.Plain.{Plain}
-use Rattle.far_evac.specs.declared.phase.Phase.TheVariants.{Evacuating, Marking, Waiting}
+use Rattle.far_evac.specs.declared.phase.Phase.TheVariants.{Evacuating, Idle, Marking, Waiting}
 use Rattle.far_evac.specs.Asked.{IsRefusedWrite}
 use Rattle.far_evac.specs.EvacOf.{EvacOf, moment_alone}
 use Rattle.far_evac.specs.Marking.{after_marking}
@@ -24,7 +24,7 @@ use Rattle.far_private.specs.Causes.{IsNotTaken}
 use Rattle.far_private.specs.LastRound.{AreEmptied, IsCold, SameLogs}
 use Rattle.far_private.specs.Objects.{Objects, Settled, objects_of, state_in}
 use Rattle.far_private.specs.Steps.{Keeps}
-use Rattle.far_private.proofs.LastRounds.{marked_cold, marked_logs, marking_ends, polling_ends, walk_empties}
+use Rattle.far_private.proofs.LastRounds.{marked_cold, marked_logs, marking_ends, polling_ends, walk_empties, walk_ends}
 use Rattle.far_private.proofs.Rounds.{kept}
 use Rattle.far_private.proofs.Stuck.{write_refused}
 
@@ -88,6 +88,9 @@ module _ {D : Type 0} (old new : EvacOf Plain D) where
 
     pub leaves_empty : (n : ℕ) → 32768 < n → moment_alone new ≡ ended (walked (moment_alone old) n) → IsCold (state_in old) old.collection → AreEmptied (state_in old) old.collection (state_in new)
     leaves_empty n many is cold = subst (AreEmptied (state_in old) old.collection) (sym (ap (λ (m : Moment). m.core) is)) (walk_empties (moment_alone old) law moment alone leaves n many cold)
+
+    pub leaves_idle : (n : ℕ) → 32768 < n → moment_alone new ≡ ended (walked (moment_alone old) n) → new.phase ≡ Idle
+    leaves_idle n many is = ap (λ (m : Moment). m.phase) is ∙ walk_ends (moment_alone old) law moment alone leaves n many
 
     -- or the device refuses a write
     pub stops_keeps : (k : ℕ) → moment_alone new ≡ (walked (moment_alone old) k).moment → Keeps (state_in old) (state_in new)

@@ -16,13 +16,13 @@ use Rattle.far_word.proofs.ByteLaws.{length-bytes_of}
 use Rattle.far_log.specs.declared.span.Span.{Span}
 use Rattle.far_log.specs.Spans.{taken_by}
 use Rattle.far_core.specs.laws.Observed.{live_bytes, span_for}
-use Rattle.far_core.specs.state.Law.{Law, in_use}
-use Rattle.far_core.specs.state.Spans.{names_place, spans_of}
-use Rattle.far_core.specs.state.State.{State, addr, put}
+use Rattle.far_events.specs.state.Law.{Law, in_use}
+use Rattle.far_events.specs.state.Spans.{names_place, spans_of}
+use Rattle.far_events.specs.state.State.{State, addr, put}
 use Rattle.far_core.specs.world.World.{FarSide, Group, Object as Thing}
 use Rattle.far_core.specs.world.WorldOf.{object_of, world_of}
-use Rattle.far_core.proofs.Cells.{unused}
-use Rattle.far_core.proofs.Put.{put_both, put_other, put_same}
+use Rattle.far_events.proofs.Cells.{unused}
+use Rattle.far_events.proofs.Put.{put_both, put_other, put_same}
 use Rattle.far_book.proofs.region.Owns.{own_law}
 use Rattle.far_book.proofs.region.SpanLists.{taken_same}
 use Rattle.far_evac.specs.TakesRoom.{bytes_at, bytes_near}

@@ -9,8 +9,8 @@ use Rattle.far_word.specs.declared.pointer.PtrWord.TheVariants.{Free, Near, Far}
 use Rattle.far_word.specs.declared.refused.Refused.{Refused}
 use Rattle.far_word.specs.declared.refused.Refused.TheVariants.{Damaged, Device, Memory}
 use Rattle.far_word.specs.declared.sizes.TheConstants.{CELLS}
-use Rattle.far_core.specs.state.Law.{Law}
-use Rattle.far_core.specs.state.State.{State}
+use Rattle.far_events.specs.state.Law.{Law}
+use Rattle.far_events.specs.state.State.{State}
 use Rattle.far_core.specs.world.World.{FarSide}
 use Rattle.far_core.specs.world.WorldOf.{object_of, world_of}
 use Rattle.far_device.specs.declared.fault.DeviceFault.{DeviceFault}

@@ -3,8 +3,8 @@ use Rattle.std.proofs.Common.{◌≡◌, ℕ, ◌+◌, ◌-◌, ◌≤◌, Bool,
 use Rattle.std.specs.Option.{option_map}
 use Rattle.std.proofs.lemmas.List.{ext_get_or, length-replicate}
 use mathlib.Core.Path.{fun_ext}
-use Rattle.far_core.specs.state.State.{put}
-use Rattle.far_core.proofs.Put.{put_both, put_other, put_same}
+use Rattle.far_events.specs.state.State.{put}
+use Rattle.far_events.proofs.Put.{put_both, put_other, put_same}
 use Rattle.far_alone.specs.Objects.{with_range}
 use Rattle.far_alone.proofs.Spliced.{length-with_range, with_range_after, with_range_inside}
 use Rattle.far_private.specs.Heap.{object_with}

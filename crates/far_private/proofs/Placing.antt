@@ -10,27 +10,27 @@ use Rattle.far_word.specs.declared.refused.Refused.{Refused}
 use Rattle.far_word.specs.declared.sizes.TheConstants.{CELLS, LONGEST}
 use Rattle.far_word.specs.Pointer.{read_of}
 use Rattle.far_word.specs.Sizes.{size_of}
-use Rattle.far_core.specs.declared.event.Event.TheVariants.{Adopt, Ask, Name}
-use Rattle.far_core.specs.declared.naming.Naming.{Naming}
-use Rattle.far_core.specs.declared.naming.Naming.TheVariants.{Stays, Moves}
-use Rattle.far_core.specs.events.Copied.{copied_job}
-use Rattle.far_core.specs.events.Legal.{Legal}
-use Rattle.far_core.specs.events.Name.{after_naming}
-use Rattle.far_core.specs.events.namings.Moves.{after_move}
-use Rattle.far_core.specs.events.Naming.{is_dropped, naming_of, naming_row}
-use Rattle.far_core.specs.events.Pin.{place_to_view}
-use Rattle.far_core.specs.events.Step.{after}
-use Rattle.far_core.specs.declared.shape.Shape.{Shape}
-use Rattle.far_core.specs.state.Law.{Law}
-use Rattle.far_core.specs.state.Opening.{opening, without_copiers}
+use Rattle.far_events.specs.declared.event.Event.TheVariants.{Adopt, Ask, Name}
+use Rattle.far_events.specs.declared.naming.Naming.{Naming}
+use Rattle.far_events.specs.declared.naming.Naming.TheVariants.{Stays, Moves}
+use Rattle.far_events.specs.events.Copied.{copied_job}
+use Rattle.far_events.specs.events.Legal.{Legal}
+use Rattle.far_events.specs.events.Name.{after_naming}
+use Rattle.far_events.specs.events.namings.Moves.{after_move}
+use Rattle.far_events.specs.events.Naming.{is_dropped, naming_of, naming_row}
+use Rattle.far_events.specs.events.Pin.{place_to_view}
+use Rattle.far_events.specs.events.Step.{after}
+use Rattle.far_events.specs.declared.shape.Shape.{Shape}
+use Rattle.far_events.specs.state.Law.{Law}
+use Rattle.far_events.specs.state.Opening.{opening, without_copiers}
 use Rattle.far_core.specs.state.Room.{room}
-use Rattle.far_core.specs.state.State.{State, put}
+use Rattle.far_events.specs.state.State.{State, put}
 use Rattle.far_core.specs.world.Steps.{Drops, Makes}
 use Rattle.far_core.specs.world.World.{World, start}
 use Rattle.far_core.specs.world.WorldOf.{world_of}
 use Rattle.far_core.proofs.KeepOwner.{nonzero}
 use Rattle.far_core.proofs.Owing.{does, keeps}
-use Rattle.far_core.proofs.Put.{put_both, put_other, put_same}
+use Rattle.far_events.proofs.Put.{put_both, put_other, put_same}
 use Rattle.far_book.specs.book.Effects.{near_word, placed, retired, with_blank_span, with_free_cell}
 use Rattle.far_book.proofs.region.Reaching.{placing_legal, retiring}
 use Rattle.far_book.proofs.region.Retires.{retired_is}

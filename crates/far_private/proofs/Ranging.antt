@@ -1,6 +1,6 @@
 -- The bytes of a near object, by its place.
 use Rattle.std.proofs.Common.{◌≡◌, ℕ, ◌+◌, ◌*◌, ◌≤◌, true, false, refl, sym, ap, subst, ◌∙◌, arith, Option, Some, None, List}
-use Rattle.std.specs.Prelude.{IfSome, slice_range, Result, OnOk, nat_lt, nat_le, is_some, ◌&&◌, if◌then◌else◌}
+use Rattle.std.specs.Prelude.{IfSome, slice_range, Result, Ok, Err, OnErr, OnOk, nat_lt, nat_le, is_some, ◌&&◌, if◌then◌else◌}
 use Rattle.far_word.specs.declared.refused.Refused.TheVariants.{NotHeld, Range}
 use Rattle.std.proofs.lemmas.Bool.{false≢true, not-true}
 use mathlib.Core.Path.{fun_ext}
@@ -13,9 +13,9 @@ use Rattle.far_word.specs.Bytes.{bytes_of}
 use Rattle.far_word.specs.Pointer.{pointer_len, read_of}
 use Rattle.far_word.specs.Sizes.{words_for}
 use Rattle.far_word.proofs.PointerLaws.{read_says}
-use Rattle.far_core.specs.state.Law.{Law, in_use}
-use Rattle.far_core.specs.state.State.{State, addr}
-use Rattle.far_core.specs.events.Step.{near_len, near_data, data_len}
+use Rattle.far_events.specs.state.Law.{Law, in_use}
+use Rattle.far_events.specs.state.State.{State, addr}
+use Rattle.far_events.specs.events.Step.{near_len, near_data, data_len}
 use Rattle.far_core.specs.world.World.{Object as Thing}
 use Rattle.far_core.specs.world.WorldOf.{world_of}
 use Rattle.far_alone.specs.Dereference.{says_near}
@@ -106,3 +106,8 @@ module _ (s : State) (law : Law s) (p from count n : ℕ) (used : s.used p ≡ t
 
   pub refuses_range : (nat_lt 0 count && nat_le (from + count) n) ≡ false → access_refusal (objects_of s) p from count ≡ Some Range
   refuses_range e = refusal_is ∙ ap (λ b. if b then None else Some Range) e
+
+-- ---- what a refusal leaves
+pub kept_on : (r : Result (Unit {0}) Refused) (x y z : List ℕ) → y ≡ z → OnErr r (x ≡ y) → OnErr r (x ≡ z)
+kept_on (Ok done) x y z same kept = tt
+kept_on (Err why) x y z same kept = kept ∙ same

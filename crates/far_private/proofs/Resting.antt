@@ -12,20 +12,21 @@ use Rattle.far_word.specs.declared.sizes.TheConstants.{CELLS}
 use Rattle.far_word.specs.Pointer.{read_of, without_owner_marks, word_of}
 use Rattle.far_word.proofs.MaskLaws.{IsPtr-without_owner_marks}
 use Rattle.far_word.proofs.PointerLaws.{read_back, read_says}
-use Rattle.far_core.specs.declared.event.Event.TheVariants.{Ask}
-use Rattle.far_core.specs.events.Accesses.{IsAtRest, hot_word, moved_word, with_cell}
-use Rattle.far_core.specs.events.Legal.{Legal}
-use Rattle.far_core.specs.events.Pin.{place_to_view}
-use Rattle.far_core.specs.events.Step.{after}
-use Rattle.far_core.specs.state.Law.{Law}
-use Rattle.far_core.specs.state.State.{State, put}
+use Rattle.far_events.specs.declared.event.Event.TheVariants.{Ask}
+use Rattle.far_events.specs.events.Accesses.{IsAtRest, hot_word, moved_word, with_cell}
+use Rattle.far_events.specs.events.Legal.{Legal}
+use Rattle.far_events.specs.events.Pin.{place_to_view}
+use Rattle.far_events.specs.events.Step.{after}
+use Rattle.far_events.specs.state.Law.{Law}
+use Rattle.far_events.specs.state.State.{State, put}
 use Rattle.far_core.specs.world.World.{World}
 use Rattle.far_core.specs.world.WorldOf.{object_of, world_of}
-use Rattle.far_core.proofs.Accesses.{rest_is, unheld}
-use Rattle.far_core.proofs.Bounds.{some_of}
+use Rattle.far_events.proofs.Rests.{rest_is}
+use Rattle.far_core.proofs.Accesses.{unheld}
+use Rattle.far_events.proofs.Bounds.{some_of}
 use Rattle.far_core.proofs.KeepOwner.{nonzero}
 use Rattle.far_core.proofs.Owing.{does}
-use Rattle.far_core.proofs.Put.{put_both}
+use Rattle.far_events.proofs.Put.{put_both}
 use Rattle.far_core.proofs.events.Pin.{hot_world}
 use Rattle.far_private.specs.Objects.{Settled}
 use Rattle.far_private.specs.Steps.{Keeps}

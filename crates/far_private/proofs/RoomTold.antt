@@ -3,7 +3,7 @@ use Rattle.std.proofs.Common.{◌≡◌, ℕ, ◌≤◌, true, Option, Some, Non
 use Rattle.std.specs.Prelude.{IfErr}
 use Rattle.far_word.specs.declared.refused.Refused.{Refused}
 use Rattle.far_word.specs.declared.refused.Refused.TheVariants.{EpochsSpent, NoRoom}
-use Rattle.far_core.specs.state.State.{State}
+use Rattle.far_events.specs.state.State.{State}
 use Rattle.far_device.specs.declared.fault.DeviceFault.{DeviceFault}
 use Rattle.far_private.specs.Causes.{IsNotTaken, IsStuck, IsWant}
 use Rattle.far_private.specs.Heap.{HasFree, Heap, IsWhyNoObject, is_length, object}

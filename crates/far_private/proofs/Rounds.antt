@@ -3,10 +3,10 @@ use Rattle.std.proofs.Common.{◌≡◌, ◌≢◌, ℕ, false, refl, sym, ap, s
 use Rattle.std.specs.Prelude.{IfOk, IfErr, List}
 use Rattle.far_word.specs.Pointer.{read_of}
 use Rattle.far_word.specs.declared.refused.Refused.{Refused}
-use Rattle.far_core.specs.events.Naming.{is_dropped}
-use Rattle.far_core.specs.state.Law.{Law}
-use Rattle.far_core.specs.state.State.{State}
-use Rattle.far_core.proofs.Cells.{unused}
+use Rattle.far_events.specs.events.Naming.{is_dropped}
+use Rattle.far_events.specs.state.Law.{Law}
+use Rattle.far_events.specs.state.State.{State}
+use Rattle.far_events.proofs.Cells.{unused}
 use Rattle.far_evac.specs.declared.phase.Phase.{Phase}
 use Rattle.far_evac.specs.declared.phase.Phase.TheVariants.{Idle, Marking, Waiting, Evacuating}
 use Rattle.far_evac.specs.Choosing.{after_aborting, after_selecting}

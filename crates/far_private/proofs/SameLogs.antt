@@ -3,8 +3,8 @@ use Rattle.std.proofs.Common.{◌≡◌, ℕ, Option, Some, refl, ap}
 use Rattle.far_word.specs.declared.pointer.Place.{Place}
 use Rattle.far_word.specs.declared.pointer.PtrWord.{PtrWord}
 use Rattle.far_word.specs.declared.pointer.PtrWord.TheVariants.{Near}
-use Rattle.far_core.specs.events.Copies.{data_at}
-use Rattle.far_core.specs.state.State.{State}
+use Rattle.far_events.specs.events.Copies.{data_at}
+use Rattle.far_events.specs.state.State.{State}
 use Rattle.far_book.specs.book.Effects.{fetched, moved_of, near_word, placed, stayed_of, with_written_span}
 use Rattle.far_evac.proofs.Framed.{ChangesOne, fetched_one, name_one, placed_one}
 

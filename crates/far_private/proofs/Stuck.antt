@@ -9,8 +9,8 @@ use Rattle.far_word.specs.Bytes.{bytes_of}
 use Rattle.far_word.specs.Pointer.{read_of}
 use Rattle.far_word.specs.Sizes.{size_of}
 use Rattle.far_word.proofs.ByteLaws.{bytes_of-same}
-use Rattle.far_core.specs.state.Law.{Law}
-use Rattle.far_core.specs.state.State.{State, addr}
+use Rattle.far_events.specs.state.Law.{Law}
+use Rattle.far_events.specs.state.State.{State, addr}
 use Rattle.far_core.specs.world.World.{Group}
 use Rattle.far_core.specs.world.WorldOf.{object_of, world_of}
 use Rattle.far_device.specs.declared.fault.DeviceFault.{DeviceFault}

@@ -6,8 +6,8 @@ use Rattle.far_word.specs.declared.pointer.PtrWord.TheVariants.{Near, Far}
 use Rattle.far_word.specs.declared.sizes.TheConstants.{CELLS}
 use Rattle.far_word.specs.Bytes.{bytes_of}
 use Rattle.far_word.specs.Pointer.{read_of}
-use Rattle.far_core.specs.state.Law.{Law, in_use}
-use Rattle.far_core.specs.state.State.{State, addr}
+use Rattle.far_events.specs.state.Law.{Law, in_use}
+use Rattle.far_events.specs.state.State.{State, addr}
 use Rattle.far_core.specs.world.World.{Object as Thing, Group, FarSide}
 use Rattle.far_core.specs.world.WorldOf.{object_of, world_of}
 use Rattle.far_private.specs.Heap.{size_of, structure_of}

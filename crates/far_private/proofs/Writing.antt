@@ -4,18 +4,19 @@ use Rattle.std.specs.Prelude.{IsSome}
 use Rattle.far_word.specs.declared.pointer.Place.{Place}
 use Rattle.far_word.specs.declared.sizes.TheConstants.{CELLS, LONGEST}
 use Rattle.far_word.specs.Pointer.{read_of}
-use Rattle.far_core.specs.declared.event.Event.TheVariants.{Close}
-use Rattle.far_core.specs.events.Accesses.{IsAtRest, overwritten, words_over, written_word}
-use Rattle.far_core.specs.events.Pin.{place_to_view}
-use Rattle.far_core.specs.events.Ranges.{after_events, stores}
-use Rattle.far_core.specs.events.Step.{after, data_len}
-use Rattle.far_core.specs.state.Law.{Law}
-use Rattle.far_core.specs.state.State.{State}
+use Rattle.far_events.specs.declared.event.Event.TheVariants.{Close}
+use Rattle.far_events.specs.events.Accesses.{IsAtRest, overwritten, words_over, written_word}
+use Rattle.far_events.specs.events.Pin.{place_to_view}
+use Rattle.far_events.specs.events.Ranges.{after_events, stores}
+use Rattle.far_events.specs.events.Step.{after, data_len}
+use Rattle.far_events.specs.state.Law.{Law}
+use Rattle.far_events.specs.state.State.{State}
 use Rattle.far_core.specs.world.World.{World}
 use Rattle.far_core.specs.world.WorldOf.{world_of}
-use Rattle.far_core.proofs.Accesses.{four, four_closed, four_legal, holds, law_three, rest_is, three}
-use Rattle.far_core.proofs.Bounds.{some_of}
-use Rattle.far_core.proofs.Put.{put_both}
+use Rattle.far_core.proofs.Accesses.{four, four_closed, four_legal, holds, law_three, three}
+use Rattle.far_events.proofs.Rests.{rest_is}
+use Rattle.far_events.proofs.Bounds.{some_of}
+use Rattle.far_events.proofs.Put.{put_both}
 use Rattle.far_core.proofs.events.Pin.{hot_world}
 use Rattle.far_alone.specs.Dereference.{says_near}
 use Rattle.far_alone.proofs.Spliced.{AreBytes}

@@ -1,6 +1,6 @@
 -- Which pointers of a heap are free.
 use Rattle.std.specs.Prelude.{◌≡◌, ◌<◌, ℕ, Bool, true, false, is_some, not}
-use Rattle.far_core.specs.state.State.{State}
+use Rattle.far_events.specs.state.State.{State}
 use Rattle.far_private.specs.FreeBits.{is_set_in}
 use Rattle.far_private.specs.Objects.{Objects, Settled, objects_of}
 use Rattle.far_private.specs.declared.free_pointers.FreePointers.{FreePointers}

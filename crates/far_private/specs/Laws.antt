@@ -6,14 +6,14 @@ use Rattle.far_word.specs.declared.sizes.TheConstants.{CELLS, LONGEST}
 use Rattle.far_word.specs.declared.pointer.PtrWord.{PtrWord}
 use Rattle.far_word.specs.Pointer.{read_of, without_owner_marks, word_of}
 use Rattle.far_word.specs.Sizes.{size_of, words_for}
-use Rattle.far_core.specs.declared.event.Event.TheVariants.{Adopt, Ask}
-use Rattle.far_core.specs.events.Accesses.{hot_word, overwritten, with_cell}
-use Rattle.far_core.specs.events.Copies.{Alike}
-use Rattle.far_core.specs.events.Pin.{place_to_view}
-use Rattle.far_core.specs.events.Step.{after}
-use Rattle.far_core.specs.state.Law.{IsStored, Law}
+use Rattle.far_events.specs.declared.event.Event.TheVariants.{Adopt, Ask}
+use Rattle.far_events.specs.events.Accesses.{hot_word, overwritten, with_cell}
+use Rattle.far_events.specs.events.Copies.{Alike}
+use Rattle.far_events.specs.events.Pin.{place_to_view}
+use Rattle.far_events.specs.events.Step.{after}
+use Rattle.far_events.specs.state.Law.{IsStored, Law}
 use Rattle.far_core.specs.state.Room.{room}
-use Rattle.far_core.specs.state.State.{State}
+use Rattle.far_events.specs.state.State.{State}
 use Rattle.far_book.specs.book.Dealing.{goal, moved_now}
 use Rattle.far_book.specs.book.Effects.{fetched, placed, retired}
 use Rattle.far_book.specs.book.Fetching.{far_len, room_for}

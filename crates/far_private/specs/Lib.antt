@@ -2,6 +2,7 @@ pub mod FreeBits
 pub mod FreePointers
 pub mod Objects
 pub mod Steps
+pub mod Staying
 pub mod Causes
 pub mod LastRound
 pub mod Laws

@@ -3,8 +3,8 @@ use Rattle.std.specs.Prelude.{◌≡◌, ℕ, true, Option, Some, None, IsSome, 
 use Rattle.far_word.specs.declared.pointer.PtrWord.{PtrWord}
 use Rattle.far_word.specs.declared.pointer.PtrWord.TheVariants.{Free, Near, Far}
 use Rattle.far_word.specs.Pointer.{read_of}
-use Rattle.far_core.specs.events.Pin.{place_to_view}
-use Rattle.far_core.specs.state.State.{State, put}
+use Rattle.far_events.specs.events.Pin.{place_to_view}
+use Rattle.far_events.specs.state.State.{State, put}
 use Rattle.far_private.specs.Heap.{object_with}
 use Rattle.far_private.specs.Objects.{Objects}
 

@@ -3,7 +3,8 @@
 ghost use Rattle.std.specs.Prelude.{◌≡◌, ◌+◌, ◌<◌, ◌≤◌, true, length, IsSome};
 ghost use Rattle.far_word.specs.declared.sizes.TheConstants.{LONGEST};
 ghost use Rattle.far_word.specs.Pointer.{read_of};
-ghost use Rattle.far_core.specs.events.Pin.{place_to_view};
+ghost use Rattle.far_events.specs.events.Pin.{place_to_view};
+ghost use Rattle.far_evac.specs.declared.phase.Phase.TheVariants.{Idle};
 ghost use Rattle.far_private.specs.Objects.{Settled, len_in, objects_of, state_in, with_written};
 ghost use Rattle.far_private.specs.Steps.{Keeps};
 
@@ -18,7 +19,8 @@ use far_word::CELLS;
 pub(crate) fn warm<D: Device + Drop>(evac: &mut Evac<Plain, D>, pointer: u16)
     requires settled { Settled (state_in evac.old) }
     requires used { (state_in evac.old).used pointer ≡ true }
-    ensures { Keeps (state_in evac.old) (state_in evac.new) }
+    ensures keeps { Keeps (state_in evac.old) (state_in evac.new) }
+    ensures idle { evac.old.phase ≡ Idle → evac.new.phase ≡ Idle }
 {
     core_of(evac).keeps_law();
     if is_cold(core_of(evac).cell(pointer)) {
@@ -30,7 +32,8 @@ pub(crate) fn warm<D: Device + Drop>(evac: &mut Evac<Plain, D>, pointer: u16)
 pub(crate) fn heat<D: Device + Drop>(evac: &mut Evac<Plain, D>, pointer: u16)
     requires settled { Settled (state_in evac.old) }
     requires used { (state_in evac.old).used pointer ≡ true }
-    ensures { Keeps (state_in evac.old) (state_in evac.new) }
+    ensures keeps { Keeps (state_in evac.old) (state_in evac.new) }
+    ensures idle { evac.old.phase ≡ Idle → evac.new.phase ≡ Idle }
 {
     evac.heat((pointer / CELLS) as u8, pointer);
 }
@@ -40,7 +43,8 @@ pub(crate) fn cool<D: Device + Drop>(evac: &mut Evac<Plain, D>, pointer: u16)
     requires settled { Settled (state_in evac.old) }
     requires used { (state_in evac.old).used pointer ≡ true }
     requires rests { IsSome (place_to_view (read_of ((state_in evac.old).cell pointer))) }
-    ensures { Keeps (state_in evac.old) (state_in evac.new) }
+    ensures keeps { Keeps (state_in evac.old) (state_in evac.new) }
+    ensures idle { evac.old.phase ≡ Idle → evac.new.phase ≡ Idle }
 {
     evac.cool((pointer / CELLS) as u8, pointer);
 }
@@ -53,16 +57,22 @@ pub(crate) fn overwrite<D: Device + Drop>(
     from: u16,
     bytes: &[u8],
 )
+    // the object is in use and lies where a view may rest, and the range, one byte or more, lies within it
     requires settled { Settled (state_in evac.old) }
     requires used { (state_in evac.old).used pointer ≡ true }
     requires rests { IsSome (place_to_view (read_of ((state_in evac.old).cell pointer))) }
     requires some { 0 < length bytes.now }
     requires inside { from + length bytes.now ≤ len_in (objects_of (state_in evac.old)) pointer }
     requires most { from + length bytes.now ≤ LONGEST }
+
+    // the range has these bytes then, and callers see no other change; the object is in use and lies where a view may rest, as before
     ensures settled { Settled (state_in evac.new) }
     ensures written { objects_of (state_in evac.new) ≡ with_written pointer from bytes.now (objects_of (state_in evac.old)) }
     ensures used { (state_in evac.new).used pointer ≡ true }
     ensures rests { IsSome (place_to_view (read_of ((state_in evac.new).cell pointer))) }
+
+    // no round stands where none stood
+    ensures idle { evac.old.phase ≡ Idle → evac.new.phase ≡ Idle }
 {
     evac.write_over((pointer / CELLS) as u8, pointer, from, bytes);
 }
@@ -82,6 +92,7 @@ pub(crate) fn overwrite_cold<D: Device + Drop>(
     requires most { from + length bytes.now ≤ LONGEST }
     ensures settled { Settled (state_in evac.new) }
     ensures written { objects_of (state_in evac.new) ≡ with_written pointer from bytes.now (objects_of (state_in evac.old)) }
+    ensures idle { evac.old.phase ≡ Idle → evac.new.phase ≡ Idle }
 {
     overwrite(evac, pointer, from, bytes);
     cool(evac, pointer);

@@ -3,9 +3,10 @@
 ghost use Rattle.std.specs.Prelude.{◌≡◌, ◌≢◌, ◌≤◌, true, false, length, IsSome, IfErr, OnOk};
 ghost use Rattle.far_word.specs.declared.refused.Refused.TheVariants.{NoRoom as no_room};
 ghost use Rattle.far_word.specs.Pointer.{read_of};
-ghost use Rattle.far_core.specs.events.Pin.{place_to_view};
+ghost use Rattle.far_events.specs.events.Pin.{place_to_view};
 ghost use Rattle.far_core.specs.state.Room.{free_logs};
 ghost use Rattle.far_alone.specs.Dereference.{says_near};
+ghost use Rattle.far_evac.specs.declared.phase.Phase.TheVariants.{Idle};
 ghost use Rattle.far_private.specs.Causes.{IsCrowded, IsStuck, StaysAway, StaysFar};
 ghost use Rattle.far_private.specs.Objects.{Settled, state_in};
 ghost use Rattle.far_private.specs.Steps.{Keeps};
@@ -30,6 +31,7 @@ pub(crate) fn bring_to_rest<D: Device + Drop>(
     ensures rests { OnOk result (IsSome (place_to_view (read_of ((state_in evac.new).cell pointer)))) }
     ensures away { IfErr result (λ why. StaysAway D D.reads (state_in evac.new) pointer evac.new.book.device why) }
     ensures stuck { IfErr result (λ why. IsStuck D D.writes (state_in evac.old) why) }
+    ensures idle { evac.old.phase ≡ Idle → evac.new.phase ≡ Idle }
 {
     core_of(evac).keeps_law();
     if rests(core_of(evac).cell(pointer)) {
@@ -50,6 +52,7 @@ pub(crate) fn bring_anew<D: Device + Drop>(
     ensures rests { OnOk result (IsSome (place_to_view (read_of ((state_in evac.new).cell pointer)))) }
     ensures away { IfErr result (λ why. StaysAway D D.reads (state_in evac.new) pointer evac.new.book.device why) }
     ensures stuck { IfErr result (λ why. IsStuck D D.writes (state_in evac.old) why) }
+    ensures idle { evac.old.phase ≡ Idle → evac.new.phase ≡ Idle }
 {
     match bring(evac, pointer) {
         Err(Refused::NoRoom) => bring_again(evac, pointer),
@@ -67,6 +70,7 @@ fn bring_again<D: Device + Drop>(evac: &mut Evac<Plain, D>, pointer: u16) -> Res
     ensures rests { OnOk result (IsSome (place_to_view (read_of ((state_in evac.new).cell pointer)))) }
     ensures away { IfErr result (λ why. StaysAway D D.reads (state_in evac.new) pointer evac.new.book.device why) }
     ensures stuck { IfErr result (λ why. IsStuck D D.writes (state_in evac.old) why) }
+    ensures idle { evac.old.phase ≡ Idle → evac.new.phase ≡ Idle }
 {
     let mut rounds = Rounds::new(evac);
     while rounds.make(evac) {
@@ -86,6 +90,7 @@ fn bring_last<D: Device + Drop>(evac: &mut Evac<Plain, D>, pointer: u16) -> Resu
     ensures rests { OnOk result (IsSome (place_to_view (read_of ((state_in evac.new).cell pointer)))) }
     ensures away { IfErr result (λ why. StaysAway D D.reads (state_in evac.new) pointer evac.new.book.device why) }
     ensures stuck { IfErr result (λ why. IsStuck D D.writes (state_in evac.old) why) }
+    ensures idle { evac.old.phase ≡ Idle → evac.new.phase ≡ Idle }
 {
     let made = last_round(evac);
     match bring(evac, pointer) {
@@ -102,6 +107,7 @@ fn bring<D: Device + Drop>(evac: &mut Evac<Plain, D>, pointer: u16) -> Result<()
     ensures rests { OnOk result (IsSome (place_to_view (read_of ((state_in evac.new).cell pointer)))) }
     ensures away { IfErr result (λ why. StaysAway D D.reads (state_in evac.new) pointer evac.new.book.device why) }
     ensures roomy { 2 ≤ length (free_logs (state_in evac.old)) → IfErr result (λ why. why ≢ no_room) }
+    ensures idle { evac.old.phase ≡ Idle → evac.new.phase ≡ Idle }
 {
     let core = core_of(evac);
     core.keeps_law();
@@ -121,6 +127,7 @@ fn move_near<D: Device + Drop>(evac: &mut Evac<Plain, D>, pointer: u16) -> Resul
     ensures rests { OnOk result (IsSome (place_to_view (read_of ((state_in evac.new).cell pointer)))) }
     ensures crowded { IfErr result (λ why. IsCrowded (state_in evac.new) pointer why) }
     ensures roomy { 2 ≤ length (free_logs (state_in evac.old)) → IfErr result (λ why. why ≢ no_room) }
+    ensures idle { evac.old.phase ≡ Idle → evac.new.phase ≡ Idle }
 {
     evac.ask((pointer / CELLS) as u8, pointer, Mark::Moved);
     match evac.move_now(pointer) {
@@ -142,6 +149,7 @@ pub(crate) fn fetch_far<D: Device + Drop>(
     ensures near { OnOk result (says_near (read_of ((state_in evac.new).cell pointer)) ≡ true) }
     ensures far { IfErr result (λ why. StaysFar D D.reads (state_in evac.new) pointer evac.new.book.device why) }
     ensures roomy { 2 ≤ length (free_logs (state_in evac.old)) → IfErr result (λ why. why ≢ no_room) }
+    ensures idle { evac.old.phase ≡ Idle → evac.new.phase ≡ Idle }
 {
     evac.book().keeps_law();
     match evac.fetch(pointer) {

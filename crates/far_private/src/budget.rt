@@ -1,7 +1,9 @@
 //! How many rounds a call makes where there is no room.
 
-ghost use Rattle.std.specs.Prelude.{◌≡◌, ◌<◌, true, false};
+ghost use Rattle.std.specs.Prelude.{◌≡◌, ◌<◌, ◌+◌, true, false};
+ghost use Rattle.far_evac.specs.declared.phase.Phase.TheVariants.{Idle};
 ghost use Rattle.far_private.specs.Objects.{Settled, state_in};
+ghost use Rattle.far_private.specs.declared.rooms.Outcome.TheVariants.{Gives, Nothing, Vain};
 ghost use Rattle.far_private.specs.Steps.{Keeps};
 
 use crate::cells::core_of;
@@ -50,11 +52,27 @@ impl Rounds {
         ensures fewer { result ≡ true → self.new.left < self.old.left }
         ensures keeps { Keeps (state_in evac.old) (state_in evac.new) }
         ensures none { result ≡ false → evac.new ≡ evac.old }
+        ensures idle { evac.old.phase ≡ Idle → evac.new.phase ≡ Idle }
     {
         if self.left == 0 || self.vain == 0 {
             return false;
         }
-        match make_room(evac) {
+        let made = make_room(evac);
+        self.note(made);
+        true
+    }
+
+    // Notes what a round came to. One that gave sets back how many may bring nothing.
+    fn note(&mut self, made: Outcome)
+        requires left { 0 < self.old.left }
+        requires vain { 0 < self.old.vain }
+        ensures nothing { made ≡ Nothing → self.new.left ≡ 0 }
+        ensures vain { made ≡ Vain → (self.new.left + 1 ≡ self.old.left) × (self.new.vain + 1 ≡ self.old.vain) }
+        ensures gives { made ≡ Gives → (self.new.left + 1 ≡ self.old.left) × (self.new.vain ≡ self.old.pass) }
+        ensures pass { self.new.pass ≡ self.old.pass }
+        ensures fewer { self.new.left < self.old.left }
+    {
+        match made {
             Outcome::Nothing => self.left = 0,
             Outcome::Vain => {
                 self.left -= 1;
@@ -65,6 +83,5 @@ impl Rounds {
                 self.vain = self.pass;
             }
         }
-        true
     }
 }

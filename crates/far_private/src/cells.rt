@@ -2,7 +2,7 @@
 
 ghost use Rattle.std.specs.Prelude.{◌≡◌, is_some, IsSome};
 ghost use Rattle.far_word.specs.Pointer.{read_of};
-ghost use Rattle.far_core.specs.events.Pin.{place_to_view};
+ghost use Rattle.far_events.specs.events.Pin.{place_to_view};
 ghost use Rattle.far_alone.specs.Dereference.{says_near};
 
 use far_book::Plain;

@@ -1,6 +1,6 @@
 //! Rounds that a caller asks for.
 
-ghost use Rattle.std.specs.Prelude.{◌≡◌, ◌≤◌, ℕ, List, Ok, IfOk, IfErr, length};
+ghost use Rattle.std.specs.Prelude.{◌≡◌, ◌≤◌, ℕ, List, Ok, IfOk, IfErr, OnErr, length};
 ghost use Rattle.far_log.specs.declared.row.LogRow.{LogRow};
 ghost use Rattle.far_evac.specs.declared.phase.Phase.TheVariants.{Idle};
 ghost use Rattle.far_private.specs.NoRound.{IsNoRound};
@@ -31,6 +31,7 @@ pub(crate) fn free_logs<P: Policy, D: Device + Drop>(
     ensures few { IfOk result (λ freed. freed ≤ most) }
     ensures named { IfOk result (λ freed. (rows : List LogRow) × (logs : List ℕ) × P.gives policy.old rows most (Ok logs) policy.new × (freed ≤ length logs)) }
     ensures refused { IfErr result (λ why. IsNoRound P.gives policy.old policy.new most why) }
+    ensures idle { evac.new.phase ≡ Idle }
 {
     end_round(evac);
     match begin(evac, policy, most) {
@@ -50,6 +51,7 @@ fn begin<P: Policy, D: Device + Drop>(
     ensures few { IfOk result (λ chosen. chosen ≤ most) }
     ensures named { IfOk result (λ chosen. (rows : List LogRow) × (logs : List ℕ) × P.gives policy.old rows most (Ok logs) policy.new × (chosen ≤ length logs)) }
     ensures refused { IfErr result (λ why. IsNoRound P.gives policy.old policy.new most why) }
+    ensures idle { OnErr result (evac.new.phase ≡ Idle) }
 {
     match evac.select(policy, most) {
         Ok(chosen) => Ok(chosen.len()),
@@ -61,6 +63,7 @@ fn begin<P: Policy, D: Device + Drop>(
 fn turn_all<D: Device + Drop>(evac: &mut Evac<Plain, D>, chosen: usize) -> usize
     ensures keeps { Keeps (state_in evac.old) (state_in evac.new) }
     ensures few { result ≤ chosen }
+    ensures idle { evac.new.phase ≡ Idle }
 {
     make_turns(evac);
     let left = evac.collection().len();

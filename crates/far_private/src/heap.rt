@@ -40,13 +40,16 @@ impl<D: Device + Drop> Model for PrivateHeap<D> {
     ghost use Rattle.far_private.specs.Objects.{Settled, state_in};
     ghost use Rattle.far_hand.specs.declared.plain.Plain.{Plain};
     ghost use Rattle.far_evac.specs.EvacOf.{EvacOf};
+    ghost use Rattle.far_evac.specs.declared.phase.Phase.TheVariants.{Idle};
+    ghost use Rattle.std.specs.Prelude.{◌≡◌};
     ghost use Rattle.far_private.specs.FreePointers.{IsKept};
 
     ghost Value = { Heap };
 
     ghost view = { λ h. heap_in h.evac };
 
-    ghost invariant = { λ h. IsKept (state_in h.evac) h.free };
+    // No round stands between two calls.
+    ghost invariant = { λ h. IsKept (state_in h.evac) h.free × (h.evac.phase ≡ Idle) };
 }
 
 impl<D: Device + Drop> PrivateHeap<D> {
@@ -130,7 +133,7 @@ impl<D: Device + Drop> PrivateHeap<D> {
     ///
     /// Refused, in this order: [`Refused::NotHeld`] where the pointer has no object, [`Refused::Range`] where no byte is asked for
     /// or one past the object's end, and then only [`Refused::Memory`] or [`Refused::Device`] where the device, asked for this object, failed so, and
-    /// [`Refused::Damaged`] where it gave more or fewer bytes, which no honest one does.
+    /// [`Refused::Damaged`] where it gave more or fewer bytes, which no honest one does. `out` is as it was then.
     pub fn read(&mut self, pointer: u16, from: usize, out: &mut [u8]) -> Result<(), Refused>
         ensures same { self.new ≡ self.old }
         ensures long { length out.new ≡ length out.old }
@@ -140,6 +143,7 @@ impl<D: Device + Drop> PrivateHeap<D> {
         ensures why { IfErr result (λ why. IsWhyNoAccess self.old.honest (access_refusal self.old pointer from (length out.old)) why) }
         ensures fault { access_refusal self.old pointer from (length out.old) ≡ None → IfErr result (λ why. IsFault why) }
         ensures given { IfErr result (λ why. IsNotGiven D D.reads pointer (len_in self.old pointer) why) }
+        ensures kept { OnErr result (out.new ≡ out.old) }
     {
         read_range(&mut self.evac, &mut self.glances, pointer, from, out)
     }

@@ -36,6 +36,7 @@ pub(crate) fn last_round<D: Device + Drop>(evac: &mut Evac<Plain, D>) -> Result<
     ensures room { OnOk result (2 ≤ length (free_logs (state_in evac.new))) }
     ensures want { IfErr result (λ why. IsWant why) }
     ensures stuck { IfErr result (λ why. IsStuck D D.writes (state_in evac.old) why) }
+    ensures idle { evac.old.phase ≡ Idle → evac.new.phase ≡ Idle }
 {
     if has_few(evac) {
         return Err(Refused::NoRoom);
@@ -168,6 +169,7 @@ fn send_off<D: Device + Drop>(evac: &mut Evac<Plain, D>) -> Result<(), Refused>
     ensures room { OnOk result (2 ≤ length (free_logs (state_in evac.new))) }
     ensures want { IfErr result (λ why. IsWant why) }
     ensures stuck { IfErr result (λ why. IsStuck D D.writes (state_in evac.old) why) }
+    ensures idle { evac.new.phase ≡ Idle }
 {
     evac.keeps_law();
     match evac.select(&mut Oldest, LOGS) {
@@ -217,6 +219,7 @@ fn leave<D: Device + Drop>(evac: &mut Evac<Plain, D>) -> Result<(), Refused>
     ensures emptied { OnOk result (AreEmptied (state_in evac.old) evac.old.collection (state_in evac.new)) }
     ensures want { IfErr result (λ why. IsWant why) }
     ensures stuck { IfErr result (λ why. IsStuck D D.writes (state_in evac.old) why) }
+    ensures idle { evac.new.phase ≡ Idle }
 {
     evac.keeps_law();
     match evac.evacuate_some(ALL) {

@@ -2,7 +2,7 @@
 
 ghost use Rattle.std.specs.Prelude.{◌≡◌, true, IsSome, is_some};
 ghost use Rattle.far_word.specs.Pointer.{read_of};
-ghost use Rattle.far_core.specs.state.Law.{in_use};
+ghost use Rattle.far_events.specs.state.Law.{in_use};
 ghost use Rattle.far_private.specs.Heap.{size_of, structure_of};
 ghost use Rattle.far_private.specs.Looks.{named_structure};
 ghost use Rattle.far_private.specs.Objects.{Settled, objects_of, state_in};

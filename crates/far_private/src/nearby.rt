@@ -2,7 +2,7 @@
 
 ghost use Rattle.std.specs.Prelude.{◌≡◌, ◌+◌, ◌≤◌, true, length, slice_range};
 ghost use Rattle.far_word.specs.Pointer.{read_of};
-ghost use Rattle.far_core.specs.events.Step.{data_len};
+ghost use Rattle.far_events.specs.events.Step.{data_len};
 ghost use Rattle.far_alone.specs.Dereference.{says_near};
 ghost use Rattle.far_alone.specs.Objects.{data_of};
 ghost use Rattle.far_private.specs.Objects.{state_in};

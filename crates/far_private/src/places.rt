@@ -4,6 +4,7 @@ ghost use Rattle.std.specs.Prelude.{◌≡◌, ◌≢◌, ◌≤◌, ◌<◌, �
 ghost use Rattle.far_word.specs.declared.sizes.TheConstants.{CELLS, LONGEST};
 ghost use Rattle.far_word.specs.Sizes.{size_of};
 ghost use Rattle.far_core.specs.state.Room.{room};
+ghost use Rattle.far_evac.specs.declared.phase.Phase.TheVariants.{Idle};
 ghost use Rattle.far_private.specs.Causes.{IsStuck, IsWant};
 ghost use Rattle.far_private.specs.Objects.{IsFree, IsFull, Settled, objects_of, state_in, with_filled, with_new, without};
 ghost use Rattle.far_private.specs.FreePointers.{IsKept};
@@ -37,16 +38,24 @@ pub(crate) fn place_new<D: Device + Drop>(
     len: u16,
     structure: u8,
 ) -> Result<(), Refused>
+    // the pointer's cell is free, and the length is one that an object may have
     requires settled { Settled (state_in evac.old) }
     requires free { (state_in evac.old).cell pointer ≡ 0 }
     requires pointer { pointer < 2048 }
     requires some { 0 < len }
     requires most { len ≤ LONGEST }
+
+    // done: the pointer has a new object of so many zeros and of this data structure, and no other has changed
     ensures settled { Settled (state_in evac.new) }
     ensures made { IfOk result (λ _. objects_of (state_in evac.new) ≡ with_new pointer len structure (objects_of (state_in evac.old))) }
+
+    // refused: no object has changed; there is no room, in three logs or more only as the device refused an object, or all rounds are spent
     ensures refused { OnErr result (objects_of (state_in evac.new) ≡ objects_of (state_in evac.old)) }
     ensures why { IfErr result (λ why. IsWant why) }
     ensures stuck { IfErr result (λ why. IsStuck D D.writes (state_in evac.old) why) }
+
+    // no round stands where none stood
+    ensures idle { evac.old.phase ≡ Idle → evac.new.phase ≡ Idle }
 {
     place_filled(evac, pointer, len, &[], structure)
 }
@@ -60,17 +69,25 @@ pub(crate) fn place_filled<D: Device + Drop>(
     bytes: &[u8],
     structure: u8,
 ) -> Result<(), Refused>
+    // the pointer's cell is free, the length is one that an object may have, and the bytes are no more than that
     requires settled { Settled (state_in evac.old) }
     requires free { (state_in evac.old).cell pointer ≡ 0 }
     requires pointer { pointer < 2048 }
     requires some { 0 < len }
     requires most { len ≤ LONGEST }
     requires front { length bytes.now ≤ len }
+
+    // done: the pointer has a new object of this length and data structure, with these bytes and 0 behind them, and no other has changed
     ensures settled { Settled (state_in evac.new) }
     ensures made { IfOk result (λ _. objects_of (state_in evac.new) ≡ with_filled pointer len structure bytes.now (objects_of (state_in evac.old))) }
+
+    // refused: no object has changed; there is no room, in three logs or more only as the device refused an object, or all rounds are spent
     ensures refused { OnErr result (objects_of (state_in evac.new) ≡ objects_of (state_in evac.old)) }
     ensures why { IfErr result (λ why. IsWant why) }
     ensures stuck { IfErr result (λ why. IsStuck D D.writes (state_in evac.old) why) }
+
+    // no round stands where none stood
+    ensures idle { evac.old.phase ≡ Idle → evac.new.phase ≡ Idle }
 {
     if place_now(evac, pointer, len, bytes, structure) {
         return Ok(());
@@ -87,17 +104,25 @@ fn place_by_rounds<D: Device + Drop>(
     bytes: &[u8],
     structure: u8,
 ) -> Result<(), Refused>
+    // the pointer's cell is free, the length is one that an object may have, and the bytes are no more than that
     requires settled { Settled (state_in evac.old) }
     requires free { (state_in evac.old).cell pointer ≡ 0 }
     requires pointer { pointer < 2048 }
     requires some { 0 < len }
     requires most { len ≤ LONGEST }
     requires front { length bytes.now ≤ len }
+
+    // done: the pointer has a new object of this length and data structure, with these bytes and 0 behind them, and no other has changed
     ensures settled { Settled (state_in evac.new) }
     ensures made { IfOk result (λ _. objects_of (state_in evac.new) ≡ with_filled pointer len structure bytes.now (objects_of (state_in evac.old))) }
+
+    // refused: no object has changed; there is no room, in three logs or more only as the device refused an object, or all rounds are spent
     ensures refused { OnErr result (objects_of (state_in evac.new) ≡ objects_of (state_in evac.old)) }
     ensures why { IfErr result (λ why. IsWant why) }
     ensures stuck { IfErr result (λ why. IsStuck D D.writes (state_in evac.old) why) }
+
+    // no round stands where none stood
+    ensures idle { evac.old.phase ≡ Idle → evac.new.phase ≡ Idle }
 {
     let mut rounds = Rounds::new(evac);
     while !place_now(evac, pointer, len, bytes, structure) {
@@ -116,17 +141,25 @@ fn place_last<D: Device + Drop>(
     bytes: &[u8],
     structure: u8,
 ) -> Result<(), Refused>
+    // the pointer's cell is free, the length is one that an object may have, and the bytes are no more than that
     requires settled { Settled (state_in evac.old) }
     requires free { (state_in evac.old).cell pointer ≡ 0 }
     requires pointer { pointer < 2048 }
     requires some { 0 < len }
     requires most { len ≤ LONGEST }
     requires front { length bytes.now ≤ len }
+
+    // done: the pointer has a new object of this length and data structure, with these bytes and 0 behind them, and no other has changed
     ensures settled { Settled (state_in evac.new) }
     ensures made { IfOk result (λ _. objects_of (state_in evac.new) ≡ with_filled pointer len structure bytes.now (objects_of (state_in evac.old))) }
+
+    // refused: no object has changed; there is no room, in three logs or more only as the device refused an object, or all rounds are spent
     ensures refused { OnErr result (objects_of (state_in evac.new) ≡ objects_of (state_in evac.old)) }
     ensures why { IfErr result (λ why. IsWant why) }
     ensures stuck { IfErr result (λ why. IsStuck D D.writes (state_in evac.old) why) }
+
+    // no round stands where none stood
+    ensures idle { evac.old.phase ≡ Idle → evac.new.phase ≡ Idle }
 {
     let made = last_round(evac);
     if place_now(evac, pointer, len, bytes, structure) {
@@ -144,16 +177,24 @@ fn place_now<D: Device + Drop>(
     bytes: &[u8],
     structure: u8,
 ) -> bool
+    // the pointer's cell is free, the length is one that an object may have, and the bytes are no more than that
     requires settled { Settled (state_in evac.old) }
     requires free { (state_in evac.old).cell pointer ≡ 0 }
     requires pointer { pointer < 2048 }
     requires some { 0 < len }
     requires most { len ≤ LONGEST }
     requires front { length bytes.now ≤ len }
+
+    // true: the pointer has a new object of this length and data structure, with these bytes and 0 behind them, and no other has changed
     ensures settled { result ≡ true → Settled (state_in evac.new) }
     ensures made { result ≡ true → objects_of (state_in evac.new) ≡ with_filled pointer len structure bytes.now (objects_of (state_in evac.old)) }
+
+    // false: nothing at all has changed, and there is no room for the object
     ensures refused { result ≡ false → state_in evac.new ≡ state_in evac.old }
     ensures none { result ≡ false → room (state_in evac.new) (size_of len) true ≡ None }
+
+    // no round stands where none stood
+    ensures idle { evac.old.phase ≡ Idle → evac.new.phase ≡ Idle }
 {
     let owner = (pointer / CELLS) as u8;
     match evac.place_with(owner, pointer, len, structure, bytes) {
@@ -168,6 +209,7 @@ pub(crate) fn drop_used<D: Device + Drop>(evac: &mut Evac<Plain, D>, pointer: u1
     requires used { (state_in evac.old).used pointer ≡ true }
     ensures settled { Settled (state_in evac.new) }
     ensures dropped { objects_of (state_in evac.new) ≡ without pointer (objects_of (state_in evac.old)) }
+    ensures idle { evac.old.phase ≡ Idle → evac.new.phase ≡ Idle }
 {
     let owner = (pointer / CELLS) as u8;
     evac.ask(owner, pointer, Mark::Dropped);

@@ -7,6 +7,7 @@ ghost use Rattle.far_word.specs.declared.sizes.TheConstants.{LONGEST};
 ghost use Rattle.far_word.specs.Pointer.{read_of};
 ghost use Rattle.far_core.specs.state.Room.{free_logs};
 ghost use Rattle.far_alone.specs.Dereference.{says_near};
+ghost use Rattle.far_evac.specs.declared.phase.Phase.TheVariants.{Idle};
 ghost use Rattle.far_private.specs.Causes.{IsFault, IsStuck, StaysAway, StaysFar};
 ghost use Rattle.far_private.specs.Heap.{IsOutside};
 ghost use Rattle.far_private.specs.Objects.{IsRead, Settled, access_refusal, bytes_in, len_in, objects_of, state_in, with_written};
@@ -73,14 +74,25 @@ pub(crate) fn read_range<D: Device + Drop>(
     from: usize,
     out: &mut [u8],
 ) -> Result<(), Refused>
+    // a settled heap
     requires settled { Settled (state_in evac.old) }
+
+    // callers see no change, and no round stands where none stood
     ensures keeps { Keeps (state_in evac.old) (state_in evac.new) }
-    ensures read { OnOk result (IfSome (bytes_in (objects_of (state_in evac.old)) pointer) (λ bytes. out.new ≡ slice_range bytes from (from + length out.old))) }
+    ensures idle { evac.old.phase ≡ Idle → evac.new.phase ≡ Idle }
+
+    // barred: the pointer has no object, or the range doesn't lie in it; nothing else was looked at then
     ensures barred { (why : Refusal) → access_refusal (objects_of (state_in evac.old)) pointer from (length out.old) ≡ Some why → result ≡ Err why }
-    ensures outside { access_refusal (objects_of (state_in evac.old)) pointer from (length out.old) ≡ None → IfErr result (λ why. IsOutside (state_in evac.old).honest why) }
+
+    // done: the range as it was written last, if the far side is honest; of a near object it always is
+    ensures read { OnOk result (IfSome (bytes_in (objects_of (state_in evac.old)) pointer) (λ bytes. out.new ≡ slice_range bytes from (from + length out.old))) }
+    ensures near { access_refusal (objects_of (state_in evac.old)) pointer from (length out.old) ≡ None → says_near (read_of ((state_in evac.old).cell pointer)) ≡ true → result ≡ Ok tt }
+
+    // refused: `out` is as it was, and the object stays far by a fault of the device, asked for it
+    ensures kept { OnErr result (out.new ≡ out.old) }
     ensures far { access_refusal (objects_of (state_in evac.old)) pointer from (length out.old) ≡ None → IfErr result (λ why. StaysFar D D.reads (state_in evac.new) pointer evac.new.book.device why) }
     ensures fault { access_refusal (objects_of (state_in evac.old)) pointer from (length out.old) ≡ None → IfErr result (λ why. IsFault why) }
-    ensures near { access_refusal (objects_of (state_in evac.old)) pointer from (length out.old) ≡ None → says_near (read_of ((state_in evac.old).cell pointer)) ≡ true → result ≡ Ok tt }
+    ensures outside { access_refusal (objects_of (state_in evac.old)) pointer from (length out.old) ≡ None → IfErr result (λ why. IsOutside (state_in evac.old).honest why) }
 {
     match reach(evac, pointer, from, out.len()) {
         Ok(()) => {}
@@ -98,15 +110,24 @@ fn read_reached<D: Device + Drop>(
     from: u16,
     out: &mut [u8],
 ) -> Result<(), Refused>
+    // a settled heap; the pointer has an object, in which the range lies, and a byte is asked for
     requires settled { Settled (state_in evac.old) }
     requires used { (state_in evac.old).used pointer ≡ true }
     requires some { 0 < length out.old }
     requires inside { from + length out.old ≤ len_in (objects_of (state_in evac.old)) pointer }
     requires most { from + length out.old ≤ LONGEST }
+
+    // callers see no change, and no round stands where none stood
     ensures keeps { Keeps (state_in evac.old) (state_in evac.new) }
+    ensures idle { evac.old.phase ≡ Idle → evac.new.phase ≡ Idle }
+
+    // done: the range as it was written last, if the far side is honest; of a near object it always is
     ensures read { OnOk result (IsRead (objects_of (state_in evac.old)) pointer from (length out.old) out.new) }
-    ensures far { IfErr result (λ why. StaysFar D D.reads (state_in evac.new) pointer evac.new.book.device why) }
     ensures near { says_near (read_of ((state_in evac.old).cell pointer)) ≡ true → result ≡ Ok tt }
+
+    // refused: `out` is as it was, and the object stays far by a fault of the device, asked for it
+    ensures kept { OnErr result (out.new ≡ out.old) }
+    ensures far { IfErr result (λ why. StaysFar D D.reads (state_in evac.new) pointer evac.new.book.device why) }
     ensures given { IfErr result (λ why. IsFault why) }
 {
     core_of(evac).keeps_law();
@@ -126,14 +147,23 @@ fn read_away<D: Device + Drop>(
     from: u16,
     out: &mut [u8],
 ) -> Result<(), Refused>
+    // a settled heap; the pointer has an object, which is far, in which the range lies, and a byte is asked for
     requires settled { Settled (state_in evac.old) }
     requires used { (state_in evac.old).used pointer ≡ true }
     requires far { says_near (read_of ((state_in evac.old).cell pointer)) ≡ false }
     requires some { 0 < length out.old }
     requires inside { from + length out.old ≤ len_in (objects_of (state_in evac.old)) pointer }
     requires most { from + length out.old ≤ LONGEST }
+
+    // callers see no change, and no round stands where none stood
     ensures keeps { Keeps (state_in evac.old) (state_in evac.new) }
+    ensures idle { evac.old.phase ≡ Idle → evac.new.phase ≡ Idle }
+
+    // done: the range as it was written last, if the far side is honest
     ensures read { OnOk result (IsRead (objects_of (state_in evac.old)) pointer from (length out.old) out.new) }
+
+    // refused: `out` is as it was, and the object stays far by a fault of the device, asked for it
+    ensures kept { OnErr result (out.new ≡ out.old) }
     ensures far { IfErr result (λ why. StaysFar D D.reads (state_in evac.new) pointer evac.new.book.device why) }
     ensures given { IfErr result (λ why. IsFault why) }
 {
@@ -151,14 +181,23 @@ fn read_coming<D: Device + Drop>(
     from: u16,
     out: &mut [u8],
 ) -> Result<(), Refused>
+    // a settled heap; the pointer has an object, which is far, in which the range lies, and a byte is asked for
     requires settled { Settled (state_in evac.old) }
     requires used { (state_in evac.old).used pointer ≡ true }
     requires far { says_near (read_of ((state_in evac.old).cell pointer)) ≡ false }
     requires some { 0 < length out.old }
     requires inside { from + length out.old ≤ len_in (objects_of (state_in evac.old)) pointer }
     requires most { from + length out.old ≤ LONGEST }
+
+    // callers see no change, and no round stands where none stood
     ensures keeps { Keeps (state_in evac.old) (state_in evac.new) }
+    ensures idle { evac.old.phase ≡ Idle → evac.new.phase ≡ Idle }
+
+    // done: the range as it was written last, if the far side is honest
     ensures read { OnOk result (IsRead (objects_of (state_in evac.old)) pointer from (length out.old) out.new) }
+
+    // refused: `out` is as it was, and the object stays far by a fault of the device, asked for it
+    ensures kept { OnErr result (out.new ≡ out.old) }
     ensures far { IfErr result (λ why. StaysFar D D.reads (state_in evac.new) pointer evac.new.book.device why) }
     ensures given { IfErr result (λ why. IsFault why) }
 {
@@ -184,6 +223,8 @@ fn read_there<D: Device + Drop>(
     ensures read { OnOk result (IsRead (objects_of (state_in evac.old)) pointer from (length out.old) out.new) }
     ensures far { IfErr result (λ why. StaysFar D D.reads (state_in evac.new) pointer evac.new.book.device why) }
     ensures given { IfErr result (λ why. IsFault why) }
+    ensures kept { OnErr result (out.new ≡ out.old) }
+    ensures idle { evac.old.phase ≡ Idle → evac.new.phase ≡ Idle }
 {
     glances.count_look();
     evac.glance(pointer, from, out)
@@ -196,16 +237,25 @@ fn read_brought<D: Device + Drop>(
     from: u16,
     out: &mut [u8],
 ) -> Result<(), Refused>
+    // a settled heap; the pointer has an object, in which the range lies, and a byte is asked for
     requires settled { Settled (state_in evac.old) }
     requires used { (state_in evac.old).used pointer ≡ true }
     requires some { 0 < length out.old }
     requires inside { from + length out.old ≤ len_in (objects_of (state_in evac.old)) pointer }
     requires most { from + length out.old ≤ LONGEST }
+
+    // callers see no change, and no round stands where none stood
     ensures keeps { Keeps (state_in evac.old) (state_in evac.new) }
+    ensures idle { evac.old.phase ≡ Idle → evac.new.phase ≡ Idle }
+
+    // done: the range as it was written last, if the far side is honest; of a near object it always is
     ensures read { OnOk result (IsRead (objects_of (state_in evac.old)) pointer from (length out.old) out.new) }
+    ensures near { says_near (read_of ((state_in evac.old).cell pointer)) ≡ true → result ≡ Ok tt }
+
+    // refused: `out` is as it was, and the object stays far, as no log has room for it or by a fault of the device, asked for it, and want of room only where the device refused to take an object
+    ensures kept { OnErr result (out.new ≡ out.old) }
     ensures far { IfErr result (λ why. StaysFar D D.reads (state_in evac.new) pointer evac.new.book.device why) }
     ensures stuck { IfErr result (λ why. IsStuck D D.writes (state_in evac.old) why) }
-    ensures near { says_near (read_of ((state_in evac.old).cell pointer)) ≡ true → result ≡ Ok tt }
 {
     match read_once(evac, pointer, from, out) {
         Ok(()) => Ok(()),
@@ -222,14 +272,25 @@ fn read_again<D: Device + Drop>(
     from: u16,
     out: &mut [u8],
 ) -> Result<(), Refused>
+    // a settled heap; the pointer has an object, in which the range lies, and a byte is asked for
     requires settled { Settled (state_in evac.old) }
     requires used { (state_in evac.old).used pointer ≡ true }
     requires some { 0 < length out.old }
     requires inside { from + length out.old ≤ len_in (objects_of (state_in evac.old)) pointer }
     requires most { from + length out.old ≤ LONGEST }
+
+    // it was asked for, and no log had room
     requires far { StaysFar D D.reads (state_in evac.old) pointer evac.old.book.device no_room }
+
+    // callers see no change, and no round stands where none stood
     ensures keeps { Keeps (state_in evac.old) (state_in evac.new) }
+    ensures idle { evac.old.phase ≡ Idle → evac.new.phase ≡ Idle }
+
+    // done: the range as it was written last, if the far side is honest
     ensures read { OnOk result (IsRead (objects_of (state_in evac.old)) pointer from (length out.old) out.new) }
+
+    // refused: `out` is as it was, and the object stays far, as no log has room for it or by a fault of the device, asked for it, and want of room only where the device refused to take an object
+    ensures kept { OnErr result (out.new ≡ out.old) }
     ensures far { IfErr result (λ why. StaysFar D D.reads (state_in evac.new) pointer evac.new.book.device why) }
     ensures stuck { IfErr result (λ why. IsStuck D D.writes (state_in evac.old) why) }
 {
@@ -251,13 +312,22 @@ fn read_last<D: Device + Drop>(
     from: u16,
     out: &mut [u8],
 ) -> Result<(), Refused>
+    // a settled heap; the pointer has an object, in which the range lies, and a byte is asked for
     requires settled { Settled (state_in evac.old) }
     requires used { (state_in evac.old).used pointer ≡ true }
     requires some { 0 < length out.old }
     requires inside { from + length out.old ≤ len_in (objects_of (state_in evac.old)) pointer }
     requires most { from + length out.old ≤ LONGEST }
+
+    // callers see no change, and no round stands where none stood
     ensures keeps { Keeps (state_in evac.old) (state_in evac.new) }
+    ensures idle { evac.old.phase ≡ Idle → evac.new.phase ≡ Idle }
+
+    // done: the range as it was written last, if the far side is honest
     ensures read { OnOk result (IsRead (objects_of (state_in evac.old)) pointer from (length out.old) out.new) }
+
+    // refused: `out` is as it was, and the object stays far, as no log has room for it or by a fault of the device, asked for it, and want of room only where the device refused to take an object
+    ensures kept { OnErr result (out.new ≡ out.old) }
     ensures far { IfErr result (λ why. StaysFar D D.reads (state_in evac.new) pointer evac.new.book.device why) }
     ensures stuck { IfErr result (λ why. IsStuck D D.writes (state_in evac.old) why) }
 {
@@ -276,16 +346,25 @@ fn read_once<D: Device + Drop>(
     from: u16,
     out: &mut [u8],
 ) -> Result<(), Refused>
+    // a settled heap; the pointer has an object, in which the range lies, and a byte is asked for
     requires settled { Settled (state_in evac.old) }
     requires used { (state_in evac.old).used pointer ≡ true }
     requires some { 0 < length out.old }
     requires inside { from + length out.old ≤ len_in (objects_of (state_in evac.old)) pointer }
     requires most { from + length out.old ≤ LONGEST }
+
+    // callers see no change, and no round stands where none stood
     ensures keeps { Keeps (state_in evac.old) (state_in evac.new) }
+    ensures idle { evac.old.phase ≡ Idle → evac.new.phase ≡ Idle }
+
+    // done: the range as it was written last, if the far side is honest; of a near object it always is
     ensures read { OnOk result (IsRead (objects_of (state_in evac.old)) pointer from (length out.old) out.new) }
+    ensures near { says_near (read_of ((state_in evac.old).cell pointer)) ≡ true → result ≡ Ok tt }
+
+    // refused: `out` is as it was, and the object stays far, as no log has room for it or by a fault of the device, asked for it, but never for want of room where two logs are free
+    ensures kept { OnErr result (out.new ≡ out.old) }
     ensures far { IfErr result (λ why. StaysFar D D.reads (state_in evac.new) pointer evac.new.book.device why) }
     ensures roomy { 2 ≤ length (free_logs (state_in evac.old)) → IfErr result (λ why. why ≢ no_room) }
-    ensures near { says_near (read_of ((state_in evac.old).cell pointer)) ≡ true → result ≡ Ok tt }
 {
     core_of(evac).keeps_law();
     if is_near(core_of(evac).cell(pointer)) {
@@ -307,6 +386,7 @@ fn read_near<D: Device + Drop>(evac: &mut Evac<Plain, D>, pointer: u16, from: u1
     requires most { from + length out.old ≤ LONGEST }
     ensures keeps { Keeps (state_in evac.old) (state_in evac.new) }
     ensures read { IsRead (objects_of (state_in evac.old)) pointer from (length out.old) out.new }
+    ensures idle { evac.old.phase ≡ Idle → evac.new.phase ≡ Idle }
 {
     copy_near(evac, pointer, from, out);
     warm(evac, pointer);
@@ -320,14 +400,23 @@ fn read_far<D: Device + Drop>(
     from: u16,
     out: &mut [u8],
 ) -> Result<(), Refused>
+    // a settled heap; the pointer has an object, which is far, in which the range lies, and a byte is asked for
     requires settled { Settled (state_in evac.old) }
     requires used { (state_in evac.old).used pointer ≡ true }
     requires far { says_near (read_of ((state_in evac.old).cell pointer)) ≡ false }
     requires some { 0 < length out.old }
     requires inside { from + length out.old ≤ len_in (objects_of (state_in evac.old)) pointer }
     requires most { from + length out.old ≤ LONGEST }
+
+    // callers see no change, and no round stands where none stood
     ensures keeps { Keeps (state_in evac.old) (state_in evac.new) }
+    ensures idle { evac.old.phase ≡ Idle → evac.new.phase ≡ Idle }
+
+    // done: the range as it was written last, if the far side is honest
     ensures read { OnOk result (IsRead (objects_of (state_in evac.old)) pointer from (length out.old) out.new) }
+
+    // refused: `out` is as it was, and the object stays far, as no log has room for it or by a fault of the device, asked for it, but never for want of room where two logs are free
+    ensures kept { OnErr result (out.new ≡ out.old) }
     ensures far { IfErr result (λ why. StaysFar D D.reads (state_in evac.new) pointer evac.new.book.device why) }
     ensures roomy { 2 ≤ length (free_logs (state_in evac.old)) → IfErr result (λ why. why ≢ no_room) }
 {
@@ -355,6 +444,7 @@ pub(crate) fn write_range<D: Device + Drop>(
     ensures outside { access_refusal (objects_of (state_in evac.old)) pointer from (length bytes.now) ≡ None → IfErr result (λ why. IsOutside (state_in evac.old).honest why) }
     ensures away { access_refusal (objects_of (state_in evac.old)) pointer from (length bytes.now) ≡ None → IfErr result (λ why. StaysAway D D.reads (state_in evac.new) pointer evac.new.book.device why) }
     ensures stuck { IfErr result (λ why. IsStuck D D.writes (state_in evac.old) why) }
+    ensures idle { evac.old.phase ≡ Idle → evac.new.phase ≡ Idle }
 {
     match reach(evac, pointer, from, bytes.len()) {
         Ok(()) => {}
@@ -370,13 +460,21 @@ fn write_reached<D: Device + Drop>(
     from: u16,
     bytes: &[u8],
 ) -> Result<(), Refused>
+    // a settled heap; the pointer has an object, in which the range lies, and a byte is given
     requires settled { Settled (state_in evac.old) }
     requires used { (state_in evac.old).used pointer ≡ true }
     requires some { 0 < length bytes.now }
     requires inside { from + length bytes.now ≤ len_in (objects_of (state_in evac.old)) pointer }
     requires most { from + length bytes.now ≤ LONGEST }
+
+    // it is settled again, and no round stands where none stood
     ensures settled { Settled (state_in evac.new) }
+    ensures idle { evac.old.phase ≡ Idle → evac.new.phase ≡ Idle }
+
+    // done: the range has these bytes, and nothing else has changed
     ensures written { OnOk result (objects_of (state_in evac.new) ≡ with_written pointer from bytes.now (objects_of (state_in evac.old))) }
+
+    // refused: nothing has changed; the object can't be brought to where it may be written, and there is want of room only where the device refused to take an object
     ensures refused { OnErr result (objects_of (state_in evac.new) ≡ objects_of (state_in evac.old)) }
     ensures away { IfErr result (λ why. StaysAway D D.reads (state_in evac.new) pointer evac.new.book.device why) }
     ensures stuck { IfErr result (λ why. IsStuck D D.writes (state_in evac.old) why) }
@@ -397,13 +495,21 @@ fn write_brought<D: Device + Drop>(
     from: u16,
     bytes: &[u8],
 ) -> Result<(), Refused>
+    // a settled heap; the pointer has an object, in which the range lies, and a byte is given
     requires settled { Settled (state_in evac.old) }
     requires used { (state_in evac.old).used pointer ≡ true }
     requires some { 0 < length bytes.now }
     requires inside { from + length bytes.now ≤ len_in (objects_of (state_in evac.old)) pointer }
     requires most { from + length bytes.now ≤ LONGEST }
+
+    // it is settled again, and no round stands where none stood
     ensures settled { Settled (state_in evac.new) }
+    ensures idle { evac.old.phase ≡ Idle → evac.new.phase ≡ Idle }
+
+    // done: the range has these bytes, and nothing else has changed
     ensures written { OnOk result (objects_of (state_in evac.new) ≡ with_written pointer from bytes.now (objects_of (state_in evac.old))) }
+
+    // refused: nothing has changed; the object can't be brought to where it may be written, and there is want of room only where the device refused to take an object
     ensures refused { OnErr result (objects_of (state_in evac.new) ≡ objects_of (state_in evac.old)) }
     ensures away { IfErr result (λ why. StaysAway D D.reads (state_in evac.new) pointer evac.new.book.device why) }
     ensures stuck { IfErr result (λ why. IsStuck D D.writes (state_in evac.old) why) }

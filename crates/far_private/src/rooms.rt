@@ -1,5 +1,7 @@
 //! A round that a call makes where there is no room.
 
+ghost use Rattle.std.specs.Prelude.{◌≡◌};
+ghost use Rattle.far_evac.specs.declared.phase.Phase.TheVariants.{Idle};
 ghost use Rattle.far_private.specs.Objects.{Settled, state_in};
 ghost use Rattle.far_private.specs.Steps.{Keeps};
 
@@ -47,7 +49,8 @@ struct TurnEnd {
 #[inline(never)]
 pub(crate) fn make_room<D: Device + Drop>(evac: &mut Evac<Plain, D>) -> Outcome
     requires { Settled (state_in evac.old) }
-    ensures { Keeps (state_in evac.old) (state_in evac.new) }
+    ensures keeps { Keeps (state_in evac.old) (state_in evac.new) }
+    ensures idle { evac.new.phase ≡ Idle }
 {
     let made = round(evac);
     give_up(evac);
@@ -137,7 +140,8 @@ fn gives(progress: Progress, refused: bool) -> bool {
 
 // Gives up a round that stands.
 fn give_up<D: Device + Drop>(evac: &mut Evac<Plain, D>)
-    ensures { Keeps (state_in evac.old) (state_in evac.new) }
+    ensures keeps { Keeps (state_in evac.old) (state_in evac.new) }
+    ensures idle { evac.new.phase ≡ Idle }
 {
     evac.keeps_law();
     if evac.phase() != Phase::Idle {

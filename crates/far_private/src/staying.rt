@@ -1,10 +1,12 @@
 //! Objects that the device refused in a round. Each stays near, and moves to another log as a hot one does, so that its log
 //! is given back.
 
-ghost use Rattle.std.specs.Prelude.{◌≡◌, ◌<◌};
+ghost use Rattle.std.specs.Prelude.{◌≡◌, ◌<◌, true, IfSome};
+ghost use Rattle.far_word.specs.Pointer.{read_of};
 ghost use Rattle.far_core.specs.state.CoreState.{core_state};
 ghost use Rattle.far_word.specs.declared.sizes.TheConstants.{LOG_WORDS};
 ghost use Rattle.far_private.specs.Objects.{Settled, state_in};
+ghost use Rattle.far_private.specs.Staying.{leaves_from};
 ghost use Rattle.far_private.specs.Steps.{Keeps};
 
 use crate::access::heat;
@@ -55,7 +57,9 @@ fn keep<D: Device + Drop>(evac: &mut Evac<Plain, D>, pointer: u16) -> bool
 }
 
 // The first object that is to leave a round's logs, at a place or behind it.
-fn next_in(core: &Core, logs: &[u8], from: Place) -> Option<Next> {
+fn next_in(core: &Core, logs: &[u8], from: Place) -> Option<Next>
+    ensures { IfSome result (λ next. leaves_from next.place (read_of ((core_state core.now).cell next.pointer)) ≡ true) }
+{
     let mut at = from.at;
     let mut passed = false;
     for log in logs {
@@ -71,7 +75,9 @@ fn next_in(core: &Core, logs: &[u8], from: Place) -> Option<Next> {
 }
 
 // The first object that is to leave a log, at a word where a span begins, or behind it.
-fn first_in(core: &Core, log: u8, from: u16) -> Option<Next> {
+fn first_in(core: &Core, log: u8, from: u16) -> Option<Next>
+    ensures { IfSome result (λ next. leaves_from next.place (read_of ((core_state core.now).cell next.pointer)) ≡ true) }
+{
     if log >= core.logs() {
         return None;
     }
@@ -94,7 +100,9 @@ fn first_in(core: &Core, log: u8, from: u16) -> Option<Next> {
 }
 
 // Whether a cell says near at a place, with EVAC.
-fn leaves(word: u64, from: Place) -> bool {
+fn leaves(word: u64, from: Place) -> bool
+    ensures { result ≡ leaves_from from (read_of word) }
+{
     match PtrWord::read(word) {
         Some(PtrWord::Near { place, marks, .. }) => {
             marks.evac && place.log == from.log && place.at == from.at

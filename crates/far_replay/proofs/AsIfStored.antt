@@ -7,11 +7,11 @@ use Rattle.far_word.specs.declared.pointer.Place.{Place}
 use Rattle.far_word.specs.declared.pointer.PtrWord.{PtrWord}
 use Rattle.far_word.specs.declared.pointer.PtrWord.TheVariants.{Free, Near, Far}
 use Rattle.far_word.specs.Pointer.{read_of}
-use Rattle.far_core.specs.events.Step.{after_pin}
-use Rattle.far_core.specs.state.Law.{IsStored, Law, StoresBack}
-use Rattle.far_core.specs.state.State.{State, put}
-use Rattle.far_core.proofs.Cells.{unused}
-use Rattle.far_core.proofs.Put.{put_both, put_old}
+use Rattle.far_events.specs.events.Step.{after_pin}
+use Rattle.far_events.specs.state.Law.{IsStored, Law, StoresBack}
+use Rattle.far_events.specs.state.State.{State, put}
+use Rattle.far_events.proofs.Cells.{unused}
+use Rattle.far_events.proofs.Put.{put_both, put_old}
 use Rattle.far_book.specs.book.FarSide.{kept_len}
 use Rattle.far_evac.specs.MomentLaw.{MomentLaw}
 use Rattle.far_alone.specs.Between.{Between}

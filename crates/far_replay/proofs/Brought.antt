@@ -13,25 +13,25 @@ use Rattle.far_word.specs.Pointer.{IsPtr, read_of, word_of}
 use Rattle.far_word.specs.Sizes.{size_of, words_for}
 use Rattle.far_word.proofs.ByteLaws.{bytes_of-same}
 use Rattle.far_word.proofs.PointerLaws.{read_back, read_says, word_fits}
-use Rattle.far_core.specs.declared.event.Event.{Event}
-use Rattle.far_core.specs.declared.event.Event.TheVariants.{Name as Names}
-use Rattle.far_core.specs.declared.naming.Naming.TheVariants as naming
-use Rattle.far_core.specs.events.Copies.{data_at}
-use Rattle.far_core.specs.events.Legal.{Legal}
-use Rattle.far_core.specs.events.Naming.{is_dropped, no_marks, unmarked}
-use Rattle.far_core.specs.events.Step.{after}
+use Rattle.far_events.specs.declared.event.Event.{Event}
+use Rattle.far_events.specs.declared.event.Event.TheVariants.{Name as Names}
+use Rattle.far_events.specs.declared.naming.Naming.TheVariants as naming
+use Rattle.far_events.specs.events.Copies.{data_at}
+use Rattle.far_events.specs.events.Legal.{Legal}
+use Rattle.far_events.specs.events.Naming.{is_dropped, no_marks, unmarked}
+use Rattle.far_events.specs.events.Step.{after}
 use Rattle.far_core.specs.laws.Rooms.{IsRoom, RoomIs}
-use Rattle.far_core.specs.state.Law.{Law, head_len, is_dirty}
+use Rattle.far_events.specs.state.Law.{Law, head_len, is_dirty}
 use Rattle.far_core.specs.state.Room.{room}
-use Rattle.far_core.specs.state.Spans.{names_place}
-use Rattle.far_core.specs.state.State.{State, put, addr}
+use Rattle.far_events.specs.state.Spans.{names_place}
+use Rattle.far_events.specs.state.State.{State, put, addr}
 use Rattle.far_core.specs.world.World.{World, Object}
 use Rattle.far_core.specs.world.WorldOf.{world_of, object_of}
-use Rattle.far_core.proofs.Copied.{NoCopy}
-use Rattle.far_core.proofs.Bounds.{span_len}
-use Rattle.far_core.proofs.Cells.{unused}
-use Rattle.far_core.proofs.NewSpans.{at_tail}
-use Rattle.far_core.proofs.Put.{put_both, put_old, put_other}
+use Rattle.far_events.proofs.Copied.{NoCopy}
+use Rattle.far_events.proofs.Bounds.{span_len}
+use Rattle.far_events.proofs.Cells.{unused}
+use Rattle.far_events.proofs.NewSpans.{at_tail}
+use Rattle.far_events.proofs.Put.{put_both, put_old, put_other}
 use Rattle.far_core.proofs.RoomLaws.{room_right}
 use Rattle.far_hand.specs.Quiet.{is_quiet}
 use Rattle.far_book.specs.book.Dealing.{goal_of, has_evac}

@@ -13,10 +13,10 @@ use Rattle.far_policy.specs.Scripted.{FollowsScript, scripted}
 use Rattle.far_policy.proofs.Choices.{rows_told}
 use Rattle.far_policy.proofs.LeastOnes.{least_is_one_lem, least_is_there}
 use Rattle.far_policy.proofs.Scripts.{follows_script, script_is_one_lem}
-use Rattle.far_core.specs.declared.event.Kind.{Kind}
-use Rattle.far_core.specs.declared.event.Kind.TheVariants as kinds
-use Rattle.far_core.specs.events.Mark.{is_sealed}
-use Rattle.far_core.specs.state.Law.{Law}
+use Rattle.far_events.specs.declared.event.Kind.{Kind}
+use Rattle.far_events.specs.declared.event.Kind.TheVariants as kinds
+use Rattle.far_events.specs.events.Mark.{is_sealed}
+use Rattle.far_events.specs.state.Law.{Law}
 use Rattle.far_book.specs.book.Rows.{row_of}
 use Rattle.far_evac.specs.declared.answers.EvacFault.{EvacFault}
 use Rattle.far_evac.specs.declared.answers.RoundEnd.{RoundEnd}

@@ -10,23 +10,23 @@ use Rattle.far_word.specs.declared.pointer.PtrWord.TheVariants.{Free, Near, Far}
 use Rattle.far_word.specs.declared.sizes.TheConstants.{CELLS}
 use Rattle.far_word.specs.Pointer.{read_of}
 use Rattle.far_word.specs.Mark.{marks_with}
-use Rattle.far_core.specs.declared.event.Event.{Event}
-use Rattle.far_core.specs.declared.event.Event.TheVariants.{Ask as Asks, Pin as Pins}
-use Rattle.far_core.specs.events.Legal.{Legal}
-use Rattle.far_core.specs.events.Step.{Fits, after, after_pin, data_len, is_opened, near_len, place_to_view, with_hold}
-use Rattle.far_core.specs.state.Law.{Law, in_use}
-use Rattle.far_core.specs.state.State.{State, put}
+use Rattle.far_events.specs.declared.event.Event.{Event}
+use Rattle.far_events.specs.declared.event.Event.TheVariants.{Ask as Asks, Pin as Pins}
+use Rattle.far_events.specs.events.Legal.{Legal}
+use Rattle.far_events.specs.events.Step.{Fits, after, after_pin, data_len, is_opened, near_len, place_to_view, with_hold}
+use Rattle.far_events.specs.state.Law.{Law, in_use}
+use Rattle.far_events.specs.state.State.{State, put}
 use Rattle.far_core.specs.world.World.{World}
 use Rattle.far_core.specs.world.WorldOf.{world_of}
-use Rattle.far_core.proofs.Cells.{map_mark}
-use Rattle.far_core.proofs.Guards.{open_fact}
-use Rattle.far_core.proofs.Put.{put_same, put_other}
+use Rattle.far_events.proofs.Cells.{map_mark}
+use Rattle.far_events.proofs.Guards.{open_fact}
+use Rattle.far_events.proofs.Put.{put_same, put_other}
 use Rattle.far_core.proofs.events.Ask.{move_marks, reads}
 use Rattle.far_alone.specs.Own.{bytes_in_world}
 use Rattle.far_alone.specs.Between.{Between}
 use Rattle.far_alone.specs.Dereference.{asked_for, come, comes_to, dereferenced, has_no_room, sought, sought_of}
 use Rattle.far_alone.specs.Effects.{is_slow, with_view}
-use Rattle.far_core.specs.events.Ranges.{after_events}
+use Rattle.far_events.specs.events.Ranges.{after_events}
 use Rattle.far_alone.specs.Events.{asked_events, asked_events_of, come_events, dereference_events, sought_events, view_events}
 use Rattle.far_replay.specs.Changes.{ViewsObject}
 use Rattle.far_replay.specs.Taking.{BringTakes, DereferenceLacks, DereferenceTakes, TakesNone}

@@ -2,15 +2,15 @@
 use Rattle.std.proofs.Common.{◌≡◌, ◌≢◌, ℕ, ◌<◌, Bool, true, false, not, nat_lt, sym, refl, ap, subst, ◌∙◌, is_some, None, [], ◌∷◌}
 use Rattle.std.proofs.lemmas.Bool.{lt-ltb, false≢true}
 use Rattle.far_word.specs.declared.refused.Refused.TheVariants.{NotHeld, Range, Held}
-use Rattle.far_core.specs.events.Step.{after}
-use Rattle.far_core.specs.state.Law.{Law}
-use Rattle.far_core.specs.state.State.{State}
+use Rattle.far_events.specs.events.Step.{after}
+use Rattle.far_events.specs.state.Law.{Law}
+use Rattle.far_events.specs.state.State.{State}
 use Rattle.far_core.specs.world.World.{World}
 use Rattle.far_core.specs.world.WorldOf.{world_of}
 use Rattle.far_replay.specs.Answers.{Served}
 use Rattle.far_text.specs.Command.{Drop, Mutator}
 use Rattle.far_alone.specs.Effects.{without_object}
-use Rattle.far_core.specs.events.Ranges.{after_events}
+use Rattle.far_events.specs.events.Ranges.{after_events}
 use Rattle.far_alone.specs.Events.{drop_events}
 use Rattle.far_replay.specs.Events.{events_for}
 use Rattle.far_replay.specs.Changes.{EndsObject}

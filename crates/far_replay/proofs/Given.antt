@@ -4,19 +4,19 @@ use Rattle.std.specs.Prelude.{IfErr, IfOk, Result, Ok, Err, slice_range}
 use Rattle.std.specs.List.{range_with_len}
 use Rattle.std.proofs.lemmas.Bool.{cond_both, true≢false}
 use Rattle.far_word.specs.Bytes.{packed_word}
-use Rattle.far_core.specs.declared.event.Event.{Event}
-use Rattle.far_core.specs.declared.event.Event.TheVariants.{Store as Stores}
-use Rattle.far_core.specs.declared.event.Reply.{Reply as Answer}
-use Rattle.far_core.specs.declared.event.Reply.TheVariants.{Refused as Failed}
+use Rattle.far_events.specs.declared.event.Event.{Event}
+use Rattle.far_events.specs.declared.event.Event.TheVariants.{Store as Stores}
+use Rattle.far_events.specs.declared.event.Reply.{Reply as Answer}
+use Rattle.far_events.specs.declared.event.Reply.TheVariants.{Refused as Failed}
 use Rattle.far_word.specs.declared.mark.Mark.TheVariants.{Hot}
 use Rattle.far_word.specs.declared.refused.Refused.{Refused as Refusal}
 use Rattle.far_word.specs.declared.sizes.TheConstants.{CELLS}
 use Rattle.far_word.specs.Pointer.{read_of}
-use Rattle.far_core.specs.events.Soil.{after_soil}
-use Rattle.far_core.specs.events.Step.{after, answer, is_legal, is_opened, step_of}
-use Rattle.far_core.specs.state.Law.{Law, StoresBack}
-use Rattle.far_core.specs.state.State.{State}
-use Rattle.far_core.proofs.Cells.{map_mark}
+use Rattle.far_events.specs.events.Soil.{after_soil}
+use Rattle.far_events.specs.events.Step.{after, answer, is_legal, is_opened, step_of}
+use Rattle.far_events.specs.state.Law.{Law, StoresBack}
+use Rattle.far_events.specs.state.State.{State}
+use Rattle.far_events.proofs.Cells.{map_mark}
 use Rattle.far_hand.specs.declared.plain.Plain.{Plain}
 use Rattle.far_evac.specs.EvacOf.{EvacOf}
 use Rattle.far_text.specs.Command.{Command, Mutator, On, Reads, Writes, Views as UseViews}
@@ -26,7 +26,7 @@ use Rattle.far_alone.specs.Effects.{is_slow, with_data, with_view}
 use Rattle.far_replay.specs.Far.{FarBytes, HoldsSame, far_in, far_of}
 use Rattle.far_replay.specs.Interpreter.{Comes, Dereferences, IsAccess, IsViewed, MayGive, TellsOf, Views, as_given, words_by}
 use Rattle.far_replay.specs.Moment.{FarSide, KeepsRound, Moment, as_if_stored, moment_in, state_in, with_stored}
-use Rattle.far_core.specs.events.Ranges.{after_events}
+use Rattle.far_events.specs.events.Ranges.{after_events}
 use Rattle.far_alone.specs.Events.{first_word, store_events, words_touched}
 use Rattle.far_alone.specs.Objects.{data_of, with_range}
 use Rattle.far_reply.specs.Reply.{Reply, Data, Done, Refused}

@@ -12,12 +12,12 @@ use Rattle.far_word.specs.Pointer.{IsPtr, read_of}
 use Rattle.far_word.specs.Sizes.{size_of, words_for}
 use Rattle.far_word.proofs.ByteLaws.{bytes_of-same, bytes_of-words_of, packs_back, words_of-get}
 use Rattle.far_word.proofs.PointerLaws.{read_says}
-use Rattle.far_core.specs.events.Copies.{Alike, data_at}
-use Rattle.far_core.specs.events.Naming.{no_marks}
-use Rattle.far_core.specs.state.Law.{IsStored, Law, StoresBack, in_use}
+use Rattle.far_events.specs.events.Copies.{Alike, data_at}
+use Rattle.far_events.specs.events.Naming.{no_marks}
+use Rattle.far_events.specs.state.Law.{IsStored, Law, StoresBack, in_use}
 use Rattle.far_core.specs.state.Room.{room}
-use Rattle.far_core.specs.state.State.{State}
-use Rattle.far_core.proofs.Put.{put_same}
+use Rattle.far_events.specs.state.State.{State}
+use Rattle.far_events.proofs.Put.{put_same}
 use Rattle.far_device.specs.Liar.{inverted, is_honest, lied}
 use Rattle.far_device.specs.Mem.{bytes_at}
 use Rattle.far_device.specs.declared.fault.DeviceFault.TheVariants as fault

@@ -10,13 +10,13 @@ use Rattle.far_word.specs.Pointer.{IsPtr, read_of}
 use Rattle.far_word.specs.Sizes.{size_of, words_for}
 use Rattle.far_word.proofs.ByteLaws.{bytes_of-same}
 use Rattle.far_word.proofs.PointerLaws.{read_back, read_says}
-use Rattle.far_core.specs.events.Naming.{no_marks, unmarked}
-use Rattle.far_core.specs.events.namings.Evicts.{with_kept}
-use Rattle.far_core.specs.state.Law.{Law, is_dirty}
+use Rattle.far_events.specs.events.Naming.{no_marks, unmarked}
+use Rattle.far_events.specs.events.namings.Evicts.{with_kept}
+use Rattle.far_events.specs.state.Law.{Law, is_dirty}
 use Rattle.far_core.specs.state.Room.{room}
-use Rattle.far_core.specs.state.State.{State, addr}
-use Rattle.far_core.proofs.Cells.{unused}
-use Rattle.far_core.proofs.Put.{put_other, put_same}
+use Rattle.far_events.specs.state.State.{State, addr}
+use Rattle.far_events.proofs.Cells.{unused}
+use Rattle.far_events.proofs.Put.{put_other, put_same}
 use Rattle.far_book.specs.book.Asking.{HasBytes, fault_of}
 use Rattle.far_book.specs.book.Effects.{evicted, far_word, moved, near_word, with_free_cell}
 use Rattle.far_book.specs.book.FarSide.{kept_len}

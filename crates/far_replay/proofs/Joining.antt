@@ -2,10 +2,10 @@
 use Rattle.std.proofs.Common.{◌≡◌, ℕ, true, Option, Some, None, ap, refl, sym, ◌∙◌}
 use Rattle.far_word.specs.declared.mark.Mark.TheVariants.{Dropped}
 use Rattle.far_word.specs.declared.refused.Refused.{Refused as Refusal}
-use Rattle.far_core.specs.declared.event.Event.TheVariants.{Ask}
-use Rattle.far_core.specs.events.Step.{after, after_close}
-use Rattle.far_core.specs.state.Law.{Law}
-use Rattle.far_core.specs.state.State.{State}
+use Rattle.far_events.specs.declared.event.Event.TheVariants.{Ask}
+use Rattle.far_events.specs.events.Step.{after, after_close}
+use Rattle.far_events.specs.state.Law.{Law}
+use Rattle.far_events.specs.state.State.{State}
 use Rattle.far_core.specs.state.Room.{room}
 use Rattle.far_word.specs.Sizes.{size_of}
 use Rattle.far_book.specs.book.Fetching.{order_fetched}
@@ -13,16 +13,17 @@ use Rattle.far_text.specs.Command.{Command, New, Open, Close, Where, Drop, Epoch
 use Rattle.far_text.specs.Written.{WritesBytes}
 use Rattle.far_alone.specs.Between.{Between}
 use Rattle.far_alone.specs.Effects.{with_epoch, with_scope, without_object}
-use Rattle.far_core.specs.events.Ranges.{after_events}
+use Rattle.far_events.specs.events.Ranges.{after_events}
 use Rattle.far_replay.specs.Events.{events_for, IsNoStep}
 use Rattle.far_replay.specs.Moment.{Moment, with_core}
 use Rattle.far_alone.specs.Objects.{lowest_cell}
 use Rattle.far_replay.specs.Turn.{effect, refusal, refused_effect, turn_effect, unless, with_new}
-use Rattle.far_core.proofs.Bounds.{some_of}
+use Rattle.far_events.proofs.Bounds.{some_of}
 use Rattle.far_replay.proofs.Asides.{order_new}
 use Rattle.far_alone.proofs.Drops.{retired_either}
 use Rattle.far_replay.proofs.ToldRounds.{told_effect}
-use Rattle.far_replay.proofs.Turns.{events_make, new_parts, new_tests}
+use Rattle.far_replay.proofs.Turns.{events_make, new_parts}
+use Rattle.far_replay.proofs.Ways.{new_tests}
 use Rattle.far_replay.proofs.WithCore.{moment_joined, same_order}
 
 -- its core by its events, and the rest by its parts

@@ -2,27 +2,26 @@
 use Rattle.std.proofs.Common.{◌≡◌, ℕ, Bool, true, sym, ap, subst, ◌∙◌, refl, Option, Some, None, List, [], ◌∷◌, inl, inr, false}
 use Rattle.std.specs.Prelude.{All, Contains}
 use Rattle.std.proofs.lemmas.Bool.{cond_both}
-use Rattle.far_core.specs.declared.event.Event.{Event}
-use Rattle.far_core.specs.declared.event.Reply.{Reply as Answer}
-use Rattle.far_core.specs.declared.event.Reply.TheVariants.{Refused as Failed}
+use Rattle.far_events.specs.declared.event.Event.{Event}
+use Rattle.far_events.specs.declared.event.Reply.{Reply as Answer}
+use Rattle.far_events.specs.declared.event.Reply.TheVariants.{Refused as Failed}
 use Rattle.far_word.specs.declared.mark.Mark.TheVariants.{Dirty}
 use Rattle.far_word.specs.declared.refused.Refused.{Refused as Refusal}
-use Rattle.far_core.specs.state.Law.{IsStored, Law}
-use Rattle.far_core.specs.state.Shape.{is_shape}
-use Rattle.far_core.specs.state.State.{State}
-use Rattle.far_core.specs.events.Soil.{after_soil}
-use Rattle.far_core.specs.events.Step.{step_of, is_legal, after, answer, Fits}
+use Rattle.far_events.specs.state.Law.{IsStored, Law}
+use Rattle.far_events.specs.state.Shape.{is_shape}
+use Rattle.far_events.specs.state.State.{State}
+use Rattle.far_events.specs.events.Soil.{after_soil}
+use Rattle.far_events.specs.events.Step.{step_of, is_legal, after, answer, Fits}
 use Rattle.far_core.proofs.Keeps.{step_keeps}
 use Rattle.far_core.proofs.Leaving.{events_leave}
 use Rattle.far_log.proofs.Members.{split, none_in, All-from}
 use Rattle.far_core.proofs.Steps.{agrees}
 use Rattle.far_replay.specs.Answers.{Answered, Commanded, Misled, Served, IsMoment, Begins, Comes, Stores, shape_of, first_moment}
-use Rattle.far_text.specs.Command.{Command, On, Writes, Try, Mutator, Book, Evacuator, Evacuate, Round, Step}
+use Rattle.far_text.specs.Command.{Command, On, Writes, Mutator, Book, Evacuator, Evacuate, Round, Step}
 use Rattle.far_book.specs.book.FarSide.{kept_len}
 use Rattle.far_replay.specs.Commanded.{AsksFor}
 use Rattle.far_alone.specs.Dereference.{dereferenced}
 use Rattle.far_alone.specs.Objects.{named_len, object_len}
-use Rattle.far_word.specs.declared.refused.Refused.TheVariants.{Marked}
 use Rattle.far_evac.specs.MomentLaw.{MomentLaw}
 use Rattle.far_evac.specs.declared.answers.RoundEnd.TheVariants.{Limit}
 use Rattle.far_evac.specs.declared.phase.Phase.TheVariants.{Evacuating}
@@ -30,7 +29,7 @@ use Rattle.far_evac.specs.Strays.{NoneStrays}
 use Rattle.far_replay.specs.Events.{events_for, IsNoStep}
 use Rattle.far_replay.specs.Lawful.{Lawful}
 use Rattle.far_text.specs.Written.{WritesBytes, AllWriteBytes}
-use Rattle.far_core.specs.events.Ranges.{after_events}
+use Rattle.far_events.specs.events.Ranges.{after_events}
 use Rattle.far_alone.specs.EventRows.{AllSucceed, AllPass, Succeeds}
 use Rattle.far_replay.specs.Moment.{KeptBack, Moment, as_if_stored}
 use Rattle.far_reply.specs.Reply.{Reply, Ended, Evacuated, Refused}
@@ -38,7 +37,7 @@ use Rattle.far_alone.specs.Between.{Between}
 use Rattle.far_replay.specs.Turn.{effect, refusal, refused_effect, reply_to, turn_effect, turn_reply, unless}
 use Rattle.std.specs.List.{AllByRecursion as Each}
 use Rattle.far_word.specs.Pointer.{read_of}
-use Rattle.far_core.proofs.Cells.{map_mark}
+use Rattle.far_events.proofs.Cells.{map_mark}
 use Rattle.far_replay.proofs.AsIfStored.{between_as_if, far_is_used, kept_long, law_as_if, misled_fits, no_len, round_as_if, stored_again}
 use Rattle.far_replay.proofs.Dereferences.{Derefs}
 use Rattle.far_alone.proofs.Soiling.{soiled_reads}
@@ -199,7 +198,7 @@ pub each_keeps : (P : Moment → Type 0) → ((now : Moment) (c : Command) (r : 
     (now : Moment) (c : Command) (r : Reply) (next : Moment) → P now → WritesBytes c → Commanded now c r next → P next
 each_keeps P served misled now c r next first bytes h = by_outcome now r next (λ d. WritesBytes d → P next)
     (λ d h bytes. served now d r next first bytes h)
-    (λ why m p how h bytes. served now (Mutator m (Try p)) (Refused (Marked (now.core.cell p))) next first tt h.tried)
+    (λ why m p how h bytes. served now _ _ next first tt h.tried)
     (λ why objects count h bytes. served now (Evacuator (Evacuate objects)) (Evacuated h.progress) next first tt h.left)
     (λ why turns objects policy most count h bytes. served h.stood (Evacuator (Evacuate objects)) (Evacuated h.progress) next
     (served now (Evacuator (Round policy most turns)) (Ended (Limit Evacuating)) h.stood first bytes h.turned) tt h.left)

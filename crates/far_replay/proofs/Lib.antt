@@ -37,5 +37,6 @@ pub mod Turns
 pub mod Unbrought
 pub mod ViewsRest
 pub mod Walking
+pub mod Ways
 pub mod WithCore
 pub mod WriteEnds

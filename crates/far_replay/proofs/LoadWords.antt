@@ -1,11 +1,11 @@
 -- The words that are loaded from a view: those of the state before it.
 use Rattle.std.proofs.Common.{◌≡◌, ℕ, zero, suc, ◌+◌, ◌<◌, true, refl, ap, subst, ◌∙◌, arith}
 use Rattle.far_word.specs.Sizes.{words_for}
-use Rattle.far_core.specs.declared.event.Event.TheVariants.{Load}
-use Rattle.far_core.specs.state.State.{State}
-use Rattle.far_core.specs.events.Step.{is_legal, data_len}
+use Rattle.far_events.specs.declared.event.Event.TheVariants.{Load}
+use Rattle.far_events.specs.state.State.{State}
+use Rattle.far_events.specs.events.Step.{is_legal, data_len}
 use Rattle.far_core.proofs.Owing.{is_test}
-use Rattle.far_core.specs.events.Ranges.{after_events}
+use Rattle.far_events.specs.events.Ranges.{after_events}
 use Rattle.far_alone.specs.EventRows.{AllSucceed}
 use Rattle.far_alone.specs.Events.{load_events}
 use Rattle.far_alone.proofs.MadeLemmas.{load_stays, first_succeeds}

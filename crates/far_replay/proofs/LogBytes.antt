@@ -19,12 +19,12 @@ use Rattle.far_log.specs.declared.span.Span.{Span}
 use Rattle.far_log.specs.Spans.{ds_in, head_len, len_in, pointer_in, span_at, spans_from, spans_in, taken_by}
 use Rattle.far_log.proofs.SpanLaws.{tile_bounds}
 use Rattle.far_core.specs.laws.Observed.{live_bytes, span_for}
-use Rattle.far_core.specs.state.Law.{Law}
-use Rattle.far_core.specs.state.Spans.{is_live, names_place, spans_of, word_in}
-use Rattle.far_core.specs.state.State.{State, addr, put}
-use Rattle.far_core.proofs.Cells.{map_mark, unused}
+use Rattle.far_events.specs.state.Law.{Law}
+use Rattle.far_events.specs.state.Spans.{is_live, names_place, spans_of, word_in}
+use Rattle.far_events.specs.state.State.{State, addr, put}
+use Rattle.far_events.proofs.Cells.{map_mark, unused}
 use Rattle.far_core.proofs.Observations.{bytes_make_log}
-use Rattle.far_core.proofs.Put.{put_other, put_same}
+use Rattle.far_events.proofs.Put.{put_other, put_same}
 use Rattle.far_book.specs.book.Own.{own_part}
 use Rattle.far_book.proofs.region.Owns.{own_headers, own_law, own_spans}
 use Rattle.far_book.proofs.region.SpanLists.{taken_more, taken_same}

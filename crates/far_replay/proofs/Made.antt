@@ -2,7 +2,7 @@
 use Rattle.std.proofs.Common.{◌≡◌, ◌≢◌, ◌⊎◌, inl, inr, ℕ, Bool, true, false, Some, None, List, [], ◌∷◌, length, refl, sym, ap, subst, ◌∙◌}
 use Rattle.far_word.specs.declared.refused.Refused.{Refused as Refusal}
 use Rattle.far_word.specs.declared.refused.Refused.TheVariants.{Closed, Device, Memory, NoRoom, NotHeld, Range}
-use Rattle.far_core.specs.state.Law.{Law}
+use Rattle.far_events.specs.state.Law.{Law}
 use Rattle.far_hand.specs.declared.plain.Plain.{Plain}
 use Rattle.far_evac.specs.declared.answers.EvacFault.{EvacFault}
 use Rattle.far_evac.specs.EvacOf.{EvacOf}
@@ -13,7 +13,7 @@ use Rattle.far_replay.specs.Commanded.{AsksFor, Lacks, Refuses, Served, Serves, 
 use Rattle.far_replay.specs.Far.{HoldsBy, ToldBy, far_in}
 use Rattle.far_replay.specs.Interpreter.{stopper_of}
 use Rattle.far_alone.specs.Dereference.{has_no_room}
-use Rattle.far_core.specs.events.Ranges.{after_events}
+use Rattle.far_events.specs.events.Ranges.{after_events}
 use Rattle.far_replay.specs.Events.{events_for}
 use Rattle.far_replay.specs.Moment.{FarSide, KeepsRound, Moment, moment_in, state_in}
 use Rattle.far_replay.specs.Outcome.{IsOutside}

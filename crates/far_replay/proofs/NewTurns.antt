@@ -9,27 +9,27 @@ use Rattle.far_word.specs.declared.sizes.TheConstants.{CELLS, LOG_WORDS, LONGEST
 use Rattle.far_word.specs.Header.{head_word}
 use Rattle.far_word.specs.Pointer.{read_of}
 use Rattle.far_word.specs.Sizes.{size_of, words_for}
-use Rattle.far_core.specs.declared.event.Event.{Event}
-use Rattle.far_core.specs.declared.event.Event.TheVariants.{Put, Name, Adopt}
-use Rattle.far_core.specs.declared.event.Kind.TheVariants.{Free, Open, Sealed}
-use Rattle.far_core.specs.declared.event.Reply.TheVariants.{Done, Word}
-use Rattle.far_core.specs.events.Legal.{IsNext}
-use Rattle.far_core.specs.state.Law.{Law, in_use}
-use Rattle.far_core.specs.declared.naming.Naming.TheVariants.{Places}
-use Rattle.far_core.specs.events.Name.{after_naming}
-use Rattle.far_core.specs.events.Naming.{naming_of, unmarked}
-use Rattle.far_core.proofs.Namings.{naming_only}
-use Rattle.far_core.specs.state.State.{State, put, addr}
-use Rattle.far_core.specs.events.Step.{step_of, is_legal, after, answer, with_span}
-use Rattle.far_core.proofs.Cells.{unused}
+use Rattle.far_events.specs.declared.event.Event.{Event}
+use Rattle.far_events.specs.declared.event.Event.TheVariants.{Put, Name, Adopt}
+use Rattle.far_events.specs.declared.event.Kind.TheVariants.{Free, Open, Sealed}
+use Rattle.far_events.specs.declared.event.Reply.TheVariants.{Done, Word}
+use Rattle.far_events.specs.events.Legal.{IsNext}
+use Rattle.far_events.specs.state.Law.{Law, in_use}
+use Rattle.far_events.specs.declared.naming.Naming.TheVariants.{Places}
+use Rattle.far_events.specs.events.Name.{after_naming}
+use Rattle.far_events.specs.events.Naming.{naming_of, unmarked}
+use Rattle.far_events.proofs.Namings.{naming_only}
+use Rattle.far_events.specs.state.State.{State, put, addr}
+use Rattle.far_events.specs.events.Step.{step_of, is_legal, after, answer, with_span}
+use Rattle.far_events.proofs.Cells.{unused}
 use Rattle.far_core.proofs.Owing.{is_test}
-use Rattle.far_core.proofs.Put.{put_same, put_other}
+use Rattle.far_events.proofs.Put.{put_same, put_other}
 use Rattle.far_book.specs.book.Effects.{near_word, placed as placed_by}
-use Rattle.far_core.specs.events.Ranges.{with_row, after_events}
+use Rattle.far_events.specs.events.Ranges.{with_row, after_events}
 use Rattle.far_alone.specs.EventRows.{Succeeds, AllSucceed}
 use Rattle.far_alone.specs.Between.{Between}
 use Rattle.far_alone.specs.Events.{zero_puts}
-use Rattle.far_core.proofs.Rows.{row_is}
+use Rattle.far_events.proofs.Rows.{row_is}
 use Rattle.far_alone.proofs.MadeLemmas.{made-append, AllSucceed-append, made_first, first_succeeds}
 
 -- ---- a row of zeros

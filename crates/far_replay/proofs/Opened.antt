@@ -3,14 +3,14 @@ use Rattle.std.proofs.Common.{◌≡◌, ◌==◌, ℕ, Bool, true, false, refl,
 use Rattle.far_evac.specs.declared.phase.Phase.TheVariants.{Idle}
 use Rattle.far_evac.proofs.HeldJobs.{none_held}
 use Rattle.std.proofs.lemmas.Bool.{cond_both, false≢true}
-use Rattle.far_core.specs.declared.event.Kind.{Kind}
-use Rattle.far_core.specs.declared.event.Kind.TheVariants.{Free, Open}
-use Rattle.far_core.specs.state.Law.{Law}
-use Rattle.far_core.specs.state.Shape.{is_shape}
+use Rattle.far_events.specs.declared.event.Kind.{Kind}
+use Rattle.far_events.specs.declared.event.Kind.TheVariants.{Free, Open}
+use Rattle.far_events.specs.state.Law.{Law}
+use Rattle.far_events.specs.state.Shape.{is_shape}
 use Rattle.far_core.proofs.Begins.{begins}
 use Rattle.far_replay.specs.Answers.{shape_of, first_moment}
 use Rattle.far_alone.specs.Between.{Between}
-use Rattle.far_core.specs.events.Mark.{is_sealed}
+use Rattle.far_events.specs.events.Mark.{is_sealed}
 use Rattle.far_evac.specs.MomentLaw.{MomentLaw}
 use Rattle.far_evac.specs.Strays.{NoneStrays}
 use Rattle.far_evac.proofs.Standings.{none_once}

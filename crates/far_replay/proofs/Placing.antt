@@ -7,13 +7,13 @@ use Rattle.far_word.specs.declared.refused.Refused.TheVariants.{NoPointer, NoRoo
 use Rattle.far_word.specs.declared.sizes.TheConstants.{LONGEST}
 use Rattle.far_word.specs.Sizes.{size_of}
 use Rattle.far_word.proofs.PointerLaws.{read_back}
-use Rattle.far_core.specs.declared.event.Event.TheVariants.{Adopt}
-use Rattle.far_core.specs.declared.event.Reply.{Reply}
-use Rattle.far_core.specs.events.Naming.{unmarked}
-use Rattle.far_core.specs.events.Step.{step_of}
-use Rattle.far_core.specs.state.Law.{Law}
+use Rattle.far_events.specs.declared.event.Event.TheVariants.{Adopt}
+use Rattle.far_events.specs.declared.event.Reply.{Reply}
+use Rattle.far_events.specs.events.Naming.{unmarked}
+use Rattle.far_events.specs.events.Step.{step_of}
+use Rattle.far_events.specs.state.Law.{Law}
 use Rattle.far_core.specs.state.Room.{room}
-use Rattle.far_core.specs.state.State.{State}
+use Rattle.far_events.specs.state.State.{State}
 use Rattle.far_book.specs.book.Effects.{placed, near_word}
 use Rattle.far_book.specs.book.Ledger.{IsLowestFree}
 use Rattle.far_text.specs.Command.{Mutator, New}

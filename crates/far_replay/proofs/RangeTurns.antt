@@ -5,13 +5,13 @@ use Rattle.std.proofs.lemmas.Bool.{and_parts, false≢true}
 use Rattle.std.proofs.lemmas.Bool.Decides.{nat_tests}
 use Rattle.far_word.specs.declared.refused.Refused.TheVariants.{NoRoom, Closed, NotHeld, Range}
 use Rattle.far_word.specs.declared.sizes.TheConstants.{CELLS}
-use Rattle.far_core.specs.declared.event.Event.{Event}
-use Rattle.far_core.specs.events.Ranges.{stores, after_events}
-use Rattle.far_core.specs.events.Soil.{after_soil}
-use Rattle.far_core.specs.events.Step.{data_word, is_opened}
-use Rattle.far_core.specs.events.Written.{written_words}
-use Rattle.far_core.specs.state.Law.{Law}
-use Rattle.far_core.specs.state.State.{State}
+use Rattle.far_events.specs.declared.event.Event.{Event}
+use Rattle.far_events.specs.events.Ranges.{stores, after_events}
+use Rattle.far_events.specs.events.Soil.{after_soil}
+use Rattle.far_events.specs.events.Step.{data_word, is_opened}
+use Rattle.far_events.specs.events.Written.{written_words}
+use Rattle.far_events.specs.state.Law.{Law}
+use Rattle.far_events.specs.state.State.{State}
 use Rattle.far_text.specs.Command.{Command, Mutator, On, Reads, Writes, Views}
 use Rattle.far_alone.specs.Dereference.{dereferenced, has_no_room}
 use Rattle.far_alone.specs.Effects.{with_data}
@@ -27,7 +27,7 @@ use Rattle.far_alone.proofs.Soiling.{soil_bytes, soil_len}
 use Rattle.far_alone.proofs.Spliced.{AreBytes}
 use Rattle.far_alone.proofs.Storing.{stores_made, uses_own}
 use Rattle.far_replay.proofs.Turns.{stores_lead}
-use Rattle.far_replay.proofs.Turns.{Access as Reached}
+use Rattle.far_replay.proofs.Ways.{Access as Reached}
 
 -- an access is reached
 pub opened_inside : (s : State) (m : ℕ) → is_opened s m ≡ true → nat_lt m s.mutators ≡ true

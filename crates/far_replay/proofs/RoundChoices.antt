@@ -16,7 +16,7 @@ use Rattle.far_policy.specs.Scripted.{FollowsScript, is_bad}
 use Rattle.far_policy.proofs.Choices.{among_first, first_once, more_chosen, none_chosen}
 use Rattle.far_policy.proofs.Scripts.{follows_script}
 use Rattle.far_book.specs.book.Rows.{row_of}
-use Rattle.far_core.specs.state.State.{State}
+use Rattle.far_events.specs.state.State.{State}
 use Rattle.far_evac.specs.Moment.{Moment}
 use Rattle.far_evac.specs.MomentLaw.{MomentLaw}
 use Rattle.far_evac.specs.RoundSteps.{among}

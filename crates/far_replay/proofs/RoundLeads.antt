@@ -10,15 +10,15 @@ use Rattle.far_word.specs.declared.refused.Refused.TheVariants.{Phase as WrongPh
 use Rattle.far_word.specs.declared.refused.Refused.{Refused as Refusal}
 use Rattle.far_word.specs.declared.sizes.TheConstants.{CELLS}
 use Rattle.far_word.specs.Pointer.{read_of}
-use Rattle.far_core.specs.declared.event.Event.{Event}
-use Rattle.far_core.specs.events.Naming.{is_dropped}
-use Rattle.far_core.specs.events.Ranges.{AllLegal, after_events}
-use Rattle.far_core.specs.events.Step.{Fits, step_of}
-use Rattle.far_core.specs.state.Law.{Law}
-use Rattle.far_core.specs.state.State.{State}
+use Rattle.far_events.specs.declared.event.Event.{Event}
+use Rattle.far_events.specs.events.Naming.{is_dropped}
+use Rattle.far_events.specs.events.Ranges.{AllLegal, after_events}
+use Rattle.far_events.specs.events.Step.{Fits, step_of}
+use Rattle.far_events.specs.state.Law.{Law}
+use Rattle.far_events.specs.state.State.{State}
 use Rattle.far_core.specs.world.World.{Object}
 use Rattle.far_core.specs.world.WorldOf.{world_of}
-use Rattle.far_core.proofs.Cells.{unused}
+use Rattle.far_events.proofs.Cells.{unused}
 use Rattle.far_core.proofs.Keeps.{step_keeps as event_keeps}
 use Rattle.far_core.proofs.Owing.{is_test}
 use Rattle.far_core.proofs.Steps.{agrees}

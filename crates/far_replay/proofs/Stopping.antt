@@ -5,7 +5,7 @@ use Rattle.std.proofs.lemmas.Bool.{false≢true}
 use Rattle.far_word.specs.declared.refused.Refused.{Refused as Refusal}
 use Rattle.far_word.specs.declared.refused.Refused.TheVariants.{BadChoice, Device, Memory, Phase as WrongPhase, EpochsSpent}
 use Rattle.far_word.specs.Pointer.{read_of}
-use Rattle.far_core.specs.state.Law.{is_dirty}
+use Rattle.far_events.specs.state.Law.{is_dirty}
 use Rattle.far_device.specs.declared.fault.DeviceFault.{DeviceFault}
 use Rattle.far_policy.specs.Choice.{IsBadChoice}
 use Rattle.far_evac.specs.declared.answers.EvacFault.{EvacFault}
@@ -25,10 +25,9 @@ use Rattle.far_evac.specs.Walk.{Walked, is_done, walked, way_of}
 use Rattle.far_text.specs.Command.{Command, Evacuate, Evacuator, Policy, Round}
 use Rattle.far_replay.specs.Commanded.{KeepsNear, Served, StopsAtWrite, StopsLeaving, StopsRound, StopsSo}
 use Rattle.far_replay.specs.Outcome.{IsOutside}
-use Rattle.far_reply.specs.Reply.{Ended, Evacuated, Halted}
+use Rattle.far_reply.specs.Reply.{Ended, Evacuated, Halted, Refused}
 use Rattle.far_replay.specs.Rounds.{after_round, chosen_by, is_evacuating, round_told, rows_in}
 use Rattle.far_replay.specs.Turn.{refusal, refused_effect, turn_effect, turn_reply, unless, first_cause}
-use Rattle.far_reply.specs.Reply.{Refused}
 
 -- ---- an evacuation of fewer objects
 -- where it stands isn't done, since the walk that stopped wasn't

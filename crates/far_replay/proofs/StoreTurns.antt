@@ -4,19 +4,19 @@ use Rattle.std.proofs.Common.{◌≡◌, ℕ, zero, suc, ◌+◌, ◌-◌, ◌*�
 use Rattle.std.specs.List.{range_with_len}
 use Rattle.far_word.specs.declared.pointer.Place.{Place}
 use Rattle.far_word.specs.Sizes.{words_for}
-use Rattle.far_core.specs.declared.event.Event.{Event}
-use Rattle.far_core.specs.declared.event.Event.TheVariants.{Store}
-use Rattle.far_core.specs.state.Law.{Law}
-use Rattle.far_core.specs.events.Legal.{Legal, HoldsObject}
-use Rattle.far_core.specs.state.State.{State, put}
+use Rattle.far_events.specs.declared.event.Event.{Event}
+use Rattle.far_events.specs.declared.event.Event.TheVariants.{Store}
+use Rattle.far_events.specs.state.Law.{Law}
+use Rattle.far_events.specs.events.Legal.{Legal, HoldsObject}
+use Rattle.far_events.specs.state.State.{State, put}
 use Rattle.far_word.specs.Pointer.{read_of}
-use Rattle.far_core.specs.events.Step.{is_legal, after, near_data}
+use Rattle.far_events.specs.events.Step.{is_legal, after, near_data}
 use Rattle.far_core.proofs.Keeps.{keeps}
 use Rattle.far_core.proofs.Owing.{is_test}
-use Rattle.far_core.specs.events.Ranges.{with_row, after_events}
+use Rattle.far_events.specs.events.Ranges.{with_row, after_events}
 use Rattle.far_alone.specs.EventRows.{AllSucceed}
 use Rattle.far_alone.proofs.MadeLemmas.{made_first, first_succeeds}
-use Rattle.far_core.proofs.Rows.{row_none, row_first}
+use Rattle.far_events.proofs.Rows.{row_none, row_first}
 
 -- ---- a row of stores
 module _ (m p len : ℕ) (place : Place) (w : ℕ → ℕ) (wide : (i : ℕ) → w i < 2 ^ 64)

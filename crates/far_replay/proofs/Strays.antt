@@ -2,12 +2,12 @@
 use Rattle.std.proofs.Common.{◌≡◌, Bool, true, not, None, List, [], ◌∷◌, sym, subst, refl, false}
 use Rattle.far_word.specs.declared.refused.Refused.{Refused as Refusal}
 use Rattle.far_word.specs.declared.refused.Refused.TheVariants.{Phase as WrongPhase, StillOpen}
-use Rattle.far_core.specs.declared.event.Event.{Event}
-use Rattle.far_core.specs.declared.event.Kind.{Kind}
-use Rattle.far_core.specs.declared.event.Kind.TheVariants as kinds
-use Rattle.far_core.specs.events.Step.{Fits, step_of}
-use Rattle.far_core.specs.state.Law.{Law}
-use Rattle.far_core.specs.state.State.{State}
+use Rattle.far_events.specs.declared.event.Event.{Event}
+use Rattle.far_events.specs.declared.event.Kind.{Kind}
+use Rattle.far_events.specs.declared.event.Kind.TheVariants as kinds
+use Rattle.far_events.specs.events.Step.{Fits, step_of}
+use Rattle.far_events.specs.state.Law.{Law}
+use Rattle.far_events.specs.state.State.{State}
 use Rattle.far_core.proofs.Keeps.{step_keeps}
 use Rattle.far_evac.specs.Census.{kind_named}
 use Rattle.far_evac.specs.declared.census.LogKind.TheVariants.{Chosen}
@@ -17,7 +17,7 @@ use Rattle.far_evac.proofs.Comers.{Brings, brings_more, none_same, step_brings}
 use Rattle.far_evac.proofs.Strays.{aborting_none, callers_none, marking_none, polling_none, round_none, selecting_none, walking_none}
 use Rattle.far_text.specs.Command.{Abort, Command, Evacuate, Evacuator, Mark, Round, Select, Step, Wait}
 use Rattle.std.specs.List.{AllByRecursion as Each}
-use Rattle.far_core.specs.events.Ranges.{after_events}
+use Rattle.far_events.specs.events.Ranges.{after_events}
 use Rattle.far_replay.specs.Events.{IsNoStep}
 use Rattle.far_replay.specs.Moment.{Moment}
 use Rattle.far_replay.specs.Rounds.{after_round, choice_causes, chosen_by, given_by, is_evacuating, logs_given, refused_step, round_told, rows_in, step_effect}

@@ -9,13 +9,13 @@ use Rattle.far_word.specs.declared.pointer.PtrWord.TheVariants.{Free, Near, Far}
 use Rattle.far_word.specs.Mark.{marks_with}
 use Rattle.far_word.specs.Pointer.{read_of}
 use Rattle.far_word.specs.Sizes.{size_of}
-use Rattle.far_core.specs.declared.event.Event.TheVariants.{Ask as Asks}
-use Rattle.far_core.specs.events.Step.{after, after_pin, is_opened}
-use Rattle.far_core.specs.state.Law.{Law, in_use}
+use Rattle.far_events.specs.declared.event.Event.TheVariants.{Ask as Asks}
+use Rattle.far_events.specs.events.Step.{after, after_pin, is_opened}
+use Rattle.far_events.specs.state.Law.{Law, in_use}
 use Rattle.far_core.specs.state.Room.{room}
-use Rattle.far_core.proofs.Cells.{map_mark}
-use Rattle.far_core.specs.state.State.{State, put}
-use Rattle.far_core.proofs.Put.{put_other, put_same}
+use Rattle.far_events.proofs.Cells.{map_mark}
+use Rattle.far_events.specs.state.State.{State, put}
+use Rattle.far_events.proofs.Put.{put_other, put_same}
 use Rattle.far_core.proofs.events.Ask.{reads}
 use Rattle.far_book.specs.book.Dealing.{goal_of}
 use Rattle.far_book.specs.book.Fetching.{far_len}

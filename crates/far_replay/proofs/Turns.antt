@@ -1,12 +1,10 @@
 -- The events of each command succeed, and keep the law and what holds between commands.
-use Rattle.std.proofs.Common.{◌≡◌, ◌≢◌, ℕ, ◌+◌, ◌-◌, ◌*◌, ◌/◌, ◌%◌, ◌^◌, ◌<◌, ◌≤◌, ◌⊎◌, Bool, true, false, cond, not, ◌&&◌, nat_lt, nat_le, nat_eq, refl, sym, ap, subst, ◌∙◌, arith, Option, Some, None, List, [], ◌∷◌, ◌++◌, length, get_or, is_some, if◌then◌else◌, inl, inr}
-use Rattle.std.proofs.lemmas.Bool.{and_parts, ltb-true}
+use Rattle.std.proofs.Common.{◌≡◌, ◌≢◌, ℕ, ◌+◌, ◌-◌, ◌*◌, ◌/◌, ◌%◌, ◌^◌, ◌<◌, ◌≤◌, ◌⊎◌, Bool, true, false, cond, not, nat_eq, refl, sym, ap, subst, ◌∙◌, arith, Option, Some, None, List, [], ◌∷◌, ◌++◌, length, get_or, is_some, if◌then◌else◌, inl, inr}
+use Rattle.std.proofs.lemmas.Bool.{and_parts}
 use Rattle.std.proofs.lemmas.Bool.Decides.{nat_tests}
 use Rattle.far_word.specs.declared.mark.Marks.{Marks}
 use Rattle.far_word.specs.declared.pointer.Place.{Place}
 use Rattle.far_word.specs.declared.pointer.PtrWord.TheVariants.{Near}
-use Rattle.far_word.specs.declared.refused.Refused.{Refused as Refusal}
-use Rattle.far_word.specs.declared.refused.Refused.TheVariants.{NoRoom, NoPointer, Length, Closed, AlreadyOpen, NotHeld, Range, Held, Marked}
 use Rattle.far_word.specs.declared.sizes.TheConstants.{CELLS, LOG_WORDS, LONGEST}
 use Rattle.far_word.specs.Bytes.{packed_word}
 use Rattle.far_word.specs.Header.{head_word}
@@ -15,36 +13,35 @@ use Rattle.far_word.specs.Sizes.{size_of, words_for}
 use Rattle.far_word.proofs.ByteLaws.{bytes_of-small, length-bytes_of}
 use Rattle.far_word.proofs.HeaderLaws.{head_fits}
 use Rattle.far_word.proofs.PointerLaws.{read_back, word_fits}
-use Rattle.far_core.specs.declared.event.Event.{Event}
-use Rattle.far_core.specs.declared.event.Event.TheVariants.{ReadEpoch as ReadsEpoch, Open as Opens, Load as Loads, Store as Stores, Close as Closes, Adopt as Adopts, Put as Puts, Name as Names}
-use Rattle.far_core.specs.declared.event.Kind.TheVariants as kinds
-use Rattle.far_core.specs.events.Legal.{IsNext}
+use Rattle.far_events.specs.declared.event.Event.{Event}
+use Rattle.far_events.specs.declared.event.Event.TheVariants.{ReadEpoch as ReadsEpoch, Open as Opens, Load as Loads, Store as Stores, Close as Closes, Adopt as Adopts, Put as Puts, Name as Names}
+use Rattle.far_events.specs.declared.event.Kind.TheVariants as kinds
+use Rattle.far_events.specs.events.Legal.{IsNext}
 use Rattle.far_core.specs.laws.Rooms.{IsRoom, RoomIs}
-use Rattle.far_core.specs.state.Law.{Law}
+use Rattle.far_events.specs.state.Law.{Law}
 use Rattle.far_core.specs.state.Room.{room}
-use Rattle.far_core.specs.state.State.{State, put, addr}
-use Rattle.far_core.specs.events.Naming.{unmarked}
-use Rattle.far_core.specs.events.Soil.{after_soil}
-use Rattle.far_core.specs.events.Step.{Fits, is_legal, is_opened, data_len, near_data, after_close, scope_word_of, with_span}
-use Rattle.far_core.proofs.Bounds.{some_of}
-use Rattle.far_core.proofs.KeepPlace.{header}
+use Rattle.far_events.specs.state.State.{State, put, addr}
+use Rattle.far_events.specs.events.Naming.{unmarked}
+use Rattle.far_events.specs.events.Soil.{after_soil}
+use Rattle.far_events.specs.events.Step.{Fits, is_legal, is_opened, data_len, near_data, after_close, scope_word_of, with_span}
+use Rattle.far_events.proofs.Bounds.{header}
 use Rattle.far_core.proofs.Owing.{is_test}
 use Rattle.far_core.proofs.RoomLaws.{room_right}
-use Rattle.far_core.proofs.Put.{put_same, put_old, put_other}
+use Rattle.far_events.proofs.Put.{put_same, put_old, put_other}
 use Rattle.far_replay.specs.Moment.{Moment, moment_of}
-use Rattle.far_text.specs.Command.{Command, New, Open, On, Use, Reads, Writes, Views, Close, Where, Drop, Try, Epoch, Mutator, Book, Evacuator}
-use Rattle.far_core.specs.events.Ranges.{after_events, with_row}
+use Rattle.far_text.specs.Command.{Command, New, Open, On, Use, Reads, Writes, Views, Mutator}
+use Rattle.far_events.specs.events.Ranges.{after_events, with_row}
 use Rattle.far_alone.specs.EventRows.{AllSucceed}
 use Rattle.far_alone.specs.Between.{Between}
 use Rattle.far_alone.specs.Events.{new_events, zero_puts, open_events, view_events, sought_events, dereference_events, first_word, words_touched, load_events, starts_inside, ends_inside, part_events, soil_events, store_events, drop_events}
-use Rattle.far_replay.specs.Events.{turn_events, refused_events, events_for, IsNoStep}
-use Rattle.far_alone.specs.Objects.{uses, object_len, data_of, with_range, lowest_cell, is_range}
+use Rattle.far_replay.specs.Events.{turn_events, events_for, IsNoStep}
+use Rattle.far_alone.specs.Objects.{uses, data_of, with_range, lowest_cell}
 use Rattle.far_alone.specs.Dereference.{comes_to, dereferenced, has_no_room, sought}
 use Rattle.far_book.specs.book.Effects.{near_word}
 use Rattle.far_alone.specs.Effects.{with_object, with_view, is_slow, with_data, with_epoch, with_scope, without_object, epoch_for}
-use Rattle.far_replay.specs.Turn.{turn_effect, refused_effect, effect, with_new, access_causes, first_cause, refusal, unless}
+use Rattle.far_replay.specs.Turn.{after_use, turn_effect, refused_effect, effect, refusal, unless}
 use Rattle.far_text.specs.Written.{WritesBytes}
-use Rattle.far_alone.proofs.Drops.{unheld_is, drop_succeeds, drop_ends, drop_law, drop_fits, drop_named}
+use Rattle.far_alone.proofs.Drops.{drop_succeeds, drop_ends, drop_law, drop_fits, drop_named}
 use Rattle.far_replay.proofs.LoadWords.{loads_stay, load_legal, loads_succeed}
 use Rattle.far_alone.proofs.Lowest.{lowest_cell_is}
 use Rattle.far_alone.proofs.MadeLemmas.{made_first, first_succeeds, made_law, load_stays}
@@ -59,81 +56,7 @@ use Rattle.far_replay.proofs.WriteEnds.{row_whole}
 use Rattle.far_replay.proofs.Dereferences.{Derefs, derefs, sought_between, sought_leads, view_leads}
 use Rattle.far_alone.proofs.Leading.{Leads, leads_append, leads_nowhere}
 use Rattle.far_alone.proofs.Views.{Viewed, between_by, view_between}
-
--- ---- what no refusal says
--- four causes that aren't there
-pub four : (a b c d : Bool) (w x y z : Refusal) → first_cause ((not a, w) ∷ (not b, x) ∷ (not c, y) ∷ (not d, z) ∷ []) ≡ None → (a ≡ true) × (b ≡ true) × (c ≡ true) × (d ≡ true)
-four true true true true w x y z e = (refl, refl, refl, refl)
-four _ _ _ _ w x y z e = absurd cc
-
--- three, and a fourth that is said otherwise
-pub tried : (a b c d : Bool) (w x y z : Refusal) → first_cause ((not a, w) ∷ (not b, x) ∷ (not c, y) ∷ (d, z) ∷ []) ≡ None → (a ≡ true) × (b ≡ true) × (c ≡ true) × (d ≡ false)
-tried true true true false w x y z e = (refl, refl, refl, refl)
-tried _ _ _ _ w x y z e = absurd cc
-
--- and what is so where a mark is the cause
-pub marked_last : (a b c d : Bool) (w v : ℕ) → first_cause ((not a, Range) ∷ (not b, Closed) ∷ (not c, NotHeld) ∷ (d, Marked w) ∷ []) ≡ Some (Marked v) → (a ≡ true) × (b ≡ true) × (c ≡ true) × (d ≡ true) × (v ≡ w)
-marked_last true true true true w v e = (refl, refl, refl, refl, cc)
-marked_last _ _ _ _ w v e = absurd cc
-
--- and where want of room is
-pub room_last : (a b c d : Bool) → first_cause ((not a, Range) ∷ (not b, Closed) ∷ (not c, NotHeld) ∷ (d, NoRoom) ∷ []) ≡ Some NoRoom → (a ≡ true) × (b ≡ true) × (c ≡ true) × (d ≡ true)
-room_last true true true true e = (refl, refl, refl, refl)
-room_last _ _ _ _ e = absurd cc
-
--- what none of five says; and what want of room says
-pub five : (a b c d e : Bool) → first_cause ((not a, Range) ∷ (not b, Closed) ∷ (not c, NotHeld) ∷ (not d, Range) ∷ (e, NoRoom) ∷ []) ≡ None → (a ≡ true) × (b ≡ true) × (c ≡ true) × (d ≡ true) × (e ≡ false)
-five true true true true false h = (refl, refl, refl, refl, refl)
-five _ _ _ _ _ h = absurd cc
-
-pub room_lacks : (a b c d e : Bool) → first_cause ((not a, Range) ∷ (not b, Closed) ∷ (not c, NotHeld) ∷ (not d, Range) ∷ (e, NoRoom) ∷ []) ≡ Some NoRoom →
-    (a ≡ true) × (b ≡ true) × (c ≡ true) × (e ≡ true)
-room_lacks true true true true true h = (refl, refl, refl, refl)
-room_lacks _ _ _ _ _ h = absurd cc
-
--- two of them
-pub two : (a b : Bool) (w x : Refusal) → first_cause ((not a, w) ∷ (b, x) ∷ []) ≡ None → (a ≡ true) × (b ≡ false)
-two true false w x e = (refl, refl)
-two _ _ w x e = absurd cc
-
--- three of them
-pub three : (a b c : Bool) (w x y : Refusal) → first_cause ((not a, w) ∷ (not b, x) ∷ (c, y) ∷ []) ≡ None → (a ≡ true) × (b ≡ true) × (c ≡ false)
-three true true false w x y e = (refl, refl, refl)
-three _ _ _ w x y e = absurd cc
-
--- what a command that may read or write an object has
-pub record Access (s : State) (m p from count : ℕ) : Type 0 where
-  pub opened : is_opened s m ≡ true
-  pub ours : uses s m p ≡ true
-  pub some : 0 < count
-  pub within : from + count ≤ object_len s p
-  pub room : has_no_room s m p ≡ false
-
--- what a read or a write that isn't refused has
-pub access_fact : (s : State) (m p from count : ℕ) → first_cause (access_causes (moment_of s) m p from count ++ (has_no_room s m p, NoRoom) ∷ []) ≡ None → Access s m p from count
-access_fact s m p from count e =
-    let h = five (nat_lt m s.mutators) (is_opened s m) (uses s m p) (is_range (object_len s p) from count) (has_no_room s m p) e in
-    let range : is_range (object_len s p) from count ≡ true = h.3 in
-    let some : 0 < count = grind (arith, nat_tests, range) in
-    let within : from + count ≤ object_len s p = grind (arith, nat_tests, range) in
-    record { opened = h.1; ours = h.2; some = some; within = within; room = h.4 }
-
--- what a command that may reach an object has: an open scope, the object, and room for it; and what one has that is refused for want of room
-pub may_reach : (now : Moment) (m p : ℕ) (how : Use) → refusal now (Mutator m (On p how)) ≡ None → (is_opened now.core m ≡ true) × (uses now.core m p ≡ true) × (has_no_room now.core m p ≡ false)
-may_reach now m p (Writes from bytes) e =
-    let h = five (nat_lt m now.core.mutators) (is_opened now.core m) (uses now.core m p) (is_range (object_len now.core p) from (length bytes)) (has_no_room now.core m p) e in (h.1, h.2, h.4)
-may_reach now m p (Reads from len) e =
-    let h = five (nat_lt m now.core.mutators) (is_opened now.core m) (uses now.core m p) (is_range (object_len now.core p) from len) (has_no_room now.core m p) e in (h.1, h.2, h.4)
-may_reach now m p Views e =
-    let h = tried (nat_lt m now.core.mutators) (is_opened now.core m) (uses now.core m p) (has_no_room now.core m p) Range Closed NotHeld NoRoom e in (h.1, h.2, h.3)
-
-pub lacks_place : (now : Moment) (m p : ℕ) (how : Use) → refusal now (Mutator m (On p how)) ≡ Some NoRoom → (is_opened now.core m ≡ true) × (uses now.core m p ≡ true) × (has_no_room now.core m p ≡ true)
-lacks_place now m p (Writes from bytes) e =
-    let h = room_lacks (nat_lt m now.core.mutators) (is_opened now.core m) (uses now.core m p) (is_range (object_len now.core p) from (length bytes)) (has_no_room now.core m p) e in (h.1, h.2, h.3)
-lacks_place now m p (Reads from len) e =
-    let h = room_lacks (nat_lt m now.core.mutators) (is_opened now.core m) (uses now.core m p) (is_range (object_len now.core p) from len) (has_no_room now.core m p) e in (h.1, h.2, h.3)
-lacks_place now m p Views e =
-    let h = room_last (nat_lt m now.core.mutators) (is_opened now.core m) (uses now.core m p) (has_no_room now.core m p) e in (h.1, h.2, h.3)
+use Rattle.far_replay.proofs.Ways.{Access, access_fact, by_way, may_reach, new_sizes, new_tests}
 
 -- what its dereference comes to
 pub reached : (now : Moment) (m p : ℕ) (how : Use) → Law now.core → refusal now (Mutator m (On p how)) ≡ None → Derefs now.core m p
@@ -308,15 +231,6 @@ pub record Turned (s : State) (es : List Event) (t : State) : Type 0 where
 turned_by : (s t : State) (es : List Event) → Law s → Leads s es t → Between t → Turned s es t
 turned_by s t es law way between = record { succeed = way.succeed; between = subst Between (sym way.ends) between; law = made_law s es law way.fit; fit = way.fit; ends = way.ends }
 
--- what the tests of a new object say
-pub new_sizes : (m mutators len ds : ℕ) → (nat_lt m mutators && nat_lt ds 256) ≡ true → (nat_lt 0 len && nat_le len LONGEST) ≡ true → (m < mutators) × (ds < 256) × (0 < len) × (len ≤ LONGEST)
-new_sizes m mutators len ds a b = (grind (arith, nat_tests), grind (arith, nat_tests), grind (arith, nat_tests), grind (arith, nat_tests))
-
--- none of them failed, if it isn't refused
-pub new_tests : (s : State) (m len ds : ℕ) → refusal (moment_of s) (Mutator m (New len ds)) ≡ None →
-    ((nat_lt m s.mutators && nat_lt ds 256) ≡ true) × ((nat_lt 0 len && nat_le len LONGEST) ≡ true) × (is_some (lowest_cell s m) ≡ true) × (is_some (room s (size_of len) true) ≡ true)
-new_tests s m len ds = four (nat_lt m s.mutators && nat_lt ds 256) (nat_lt 0 len && nat_le len LONGEST) (is_some (lowest_cell s m)) (is_some (room s (size_of len) true)) Range Length NoPointer NoRoom
-
 -- the numbers of a new object that isn't refused
 pub record NewParts (s : State) (m len ds p : ℕ) (place : Place) : Type 0 where
   pub owner : m < s.mutators
@@ -355,16 +269,11 @@ new_object_is s m len ds p place law e cell found =
     object_is s law m p len ds (near_word true len ds place) place parts.owner parts.low parts.high parts.free parts.some parts.most parts.structure parts.room.next parts.room.fits parts.room.here (read_back (Near len ds place clean) parts.lies) refl
 
 -- its events
-new_turned : (s : State) (m len ds : ℕ) → Law s → Between s → refusal (moment_of s) (Mutator m (New len ds)) ≡ None →
-    Turned s (turn_events (moment_of s) (Mutator m (New len ds))) (turn_effect (moment_of s) (Mutator m (New len ds))).core
-new_turned s m len ds law between e =
-    let tests = new_tests s m len ds e in
-    let cell = some_of (lowest_cell s m) tests.2 in
-    let found = some_of (room s (size_of len) true) tests.3 in
-    let p : ℕ = cell.0 in
-    let place : Place = found.0 in
+new_turned : (s : State) (m len ds p : ℕ) (place : Place) → Law s → Between s → refusal (moment_of s) (Mutator m (New len ds)) ≡ None → lowest_cell s m ≡ Some p → room s (size_of len) true ≡ Some place →
+    Turned s (new_events m len ds (Some p) (Some place)) (with_object s m p len ds place)
+new_turned s m len ds p place law between e cell found =
     let new : ℕ = near_word true len ds place in
-    let parts = new_parts s m len ds p place law e cell.1 found.1 in
+    let parts = new_parts s m len ds p place law e cell found in
     let reads : read_of new ≡ Some (Near len ds place clean) = read_back (Near len ds place clean) parts.lies in
     let puts : List Event = Puts place.log place.at (head_word p len ds) ∷ zero_puts place (words_for len) in
     let names : List Event = Names p 0 new ∷ Adopts m p ∷ [] in
@@ -372,26 +281,19 @@ new_turned s m len ds law between e =
       head_fits (header p len ds) (record { some = parts.some; most = parts.most; structure = parts.structure; cell = omega (arith, parts.owner, parts.low, parts.high, law.shape.few_mutators) }),
       Each-row Fits (λ i. Puts place.log (place.at + 1 + i) 0) 0 (words_for len) (λ i lt. omega arith),
     )
-    ((omega arith, word_fits (Near len ds place clean) parts.lies), (tt, tt)) in
-    let events : new_events m len ds (lowest_cell s m) (room s (size_of len) true) ≡ puts ++ names = (λ i. new_events m len ds (cell.1 i) (found.1 i)) in
-    let result : with_new s m len ds (lowest_cell s m) (room s (size_of len) true) ≡ with_object s m p len ds place = (λ i. with_new s m len ds (cell.1 i) (found.1 i)) in
-    subst (λ (x : List Event × State). Turned s x.0 x.1) (λ i. (sym events i, sym result i)) record {
+    ((omega arith, word_fits (Near len ds place clean) parts.lies), (tt, tt)) in record {
       succeed = new_succeeds s law m p len ds new place parts.owner parts.low parts.high parts.free parts.some parts.most parts.structure parts.room.next parts.room.fits parts.room.here reads;
       between = new_between s law m p len ds new place parts.owner parts.low parts.high parts.free parts.some parts.most parts.structure parts.room.next parts.room.fits parts.room.here reads between;
       law = made_law s (puts ++ names) law fit;
       fit = fit;
       ends = new_end s law m p len ds new place parts.owner parts.low parts.high parts.free parts.some parts.most parts.structure parts.room.next parts.room.fits parts.room.here reads
-          ∙ sym (new_object_is s m len ds p place law e cell.1 found.1);
+          ∙ sym (new_object_is s m len ds p place law e cell found);
     }
 
 -- ---- scopes
 -- other scopes and epochs leave what holds between commands
 between_scopes : (s : State) (scope : ℕ → ℕ) (remembered : ℕ → Option ℕ) (held : ℕ → Option Place) (soiled : ℕ → Bool) → Between s → Between record s { scope = scope; remembered = remembered; held = held; soiled = soiled }
 between_scopes s scope remembered held soiled between = record { named = between.named }
-
--- a scope that isn't open is closed
-pub scope_is_shut : (s : State) (m : ℕ) → nat_lt m s.mutators ≡ true → is_opened s m ≡ false → (m < s.mutators) × (s.scope m ≡ 0)
-scope_is_shut s m within opened = (grind (arith, nat_tests), grind (arith, nat_tests))
 
 -- an owner whose scope is closed reads the epoch
 read_turned : (s : State) (m : ℕ) → Law s → Between s → (m < s.mutators) × (s.scope m ≡ 0) → Turned s (ReadsEpoch m ∷ []) (with_epoch s m)
@@ -462,17 +364,15 @@ close_turned s m law between opened =
 
 -- ---- drops
 -- the events of a drop
-drop_turned : (s : State) (m p : ℕ) → Law s → Between s → (nat_lt m s.mutators ≡ true) × (uses s m p ≡ true) × (is_some (s.held p) ≡ false) → Turned s (drop_events s m p) (without_object s m p)
-drop_turned s m p law between h =
-    let within : m < s.mutators = ltb-true m s.mutators h.0 in
-    let unheld : s.held p ≡ None = unheld_is (s.held p) h.2 in
-    let ends = drop_ends s m p law within h.1 unheld in
-    let after : Between (without_object s m p) = record { named = drop_named s m p law within h.1 unheld between.named } in
+drop_turned : (s : State) (m p : ℕ) → Law s → Between s → m < s.mutators → uses s m p ≡ true → s.held p ≡ None → Turned s (drop_events s m p) (without_object s m p)
+drop_turned s m p law between within ours unheld =
+    let ends = drop_ends s m p law within ours unheld in
+    let after : Between (without_object s m p) = record { named = drop_named s m p law within ours unheld between.named } in
     record {
-      succeed = drop_succeeds s m p law within h.1 unheld;
+      succeed = drop_succeeds s m p law within ours unheld;
       between = subst Between (sym ends) after;
-      law = subst Law (sym ends) (drop_law s m p law within h.1 unheld);
-      fit = drop_fits s m p law within h.1 unheld;
+      law = subst Law (sym ends) (drop_law s m p law within ours unheld);
+      fit = drop_fits s m p law within ours unheld;
       ends = ends;
     }
 
@@ -486,41 +386,22 @@ view_turned : (s : State) (m p : ℕ) → Law s → Between s → is_opened s m 
 view_turned s m p law between opened ours =
     turned_by s (with_view s p) (view_events s m p) law (view_leads s m p law opened ours) (view_between s p (and_parts (nat_eq (p / CELLS) m) (s.used p) ours).1 between)
 
--- a command that isn't refused
-command_turned : (now : Moment) (c : Command) → IsNoStep c → Law now.core → Between now.core → WritesBytes c → refusal now c ≡ None →
-    Turned now.core (turn_events now c) (turn_effect now c).core
-command_turned now (Mutator m (New len ds)) told law between small e = new_turned now.core m len ds law between e
-command_turned now (Mutator m Open) told law between small e =
-    let h = two (nat_lt m now.core.mutators) (is_opened now.core m) Range AlreadyOpen e in
-    open_turned now.core m law between (scope_is_shut now.core m h.0 h.1)
-command_turned now (Mutator m Epoch) told law between small e =
-    let h = two (nat_lt m now.core.mutators) (is_opened now.core m) Range AlreadyOpen e in
-    read_turned now.core m law between (scope_is_shut now.core m h.0 h.1)
-command_turned now (Mutator m (On p (Writes from bytes))) told law between small e =
+-- a read, a write or a view that isn't refused
+use_turned : (now : Moment) (m p : ℕ) (how : Use) → Law now.core → Between now.core → WritesBytes (Mutator m (On p how)) → refusal now (Mutator m (On p how)) ≡ None →
+    Turned now.core (turn_events now (Mutator m (On p how))) (after_use (dereferenced now.core m p) p how)
+use_turned now m p (Writes from bytes) law between small e =
     let access = access_fact now.core m p from (length bytes) e in
     let there : State = dereferenced now.core m p in
     let view = led now.core m p from (length bytes) law access in
     let used : there.used p ≡ true = view.law.views.held_used p (ap is_some view.view.holds.rests) in
     turned_by now.core (with_data there p from bytes) (turn_events now (Mutator m (On p (Writes from bytes)))) law (write_leads now.core m p from bytes law access small)
     (between_by there (with_data there p from bytes) p refl (λ q ne. put_other there.cell p _ q ne) used (view.between between))
-command_turned now (Mutator m (On p (Reads from len))) told law between small e =
+use_turned now m p (Reads from len) law between small e =
     let access = access_fact now.core m p from len e in
     turned_by now.core (dereferenced now.core m p) (turn_events now (Mutator m (On p (Reads from len)))) law (read_leads now.core m p from len law access) ((led now.core m p from len law access).between between)
-command_turned now (Mutator m Close) told law between small e = close_turned now.core m law between (two_open (nat_lt m now.core.mutators) (is_opened now.core m) e) where
-  two_open : (a b : Bool) → first_cause ((not a, Range) ∷ (not b, Closed) ∷ []) ≡ None → b ≡ true
-  two_open true true f = refl
-  two_open true false f = absurd cc
-  two_open false b f = absurd cc
-command_turned now (Mutator m (Where p)) told law between small e = none_turned now.core law between
-command_turned now (Mutator m (Drop p)) told law between small e = drop_turned now.core m p law between (three (nat_lt m now.core.mutators) (uses now.core m p) (is_some (now.core.held p)) Range NotHeld Held e)
-command_turned now (Mutator m (On p Views)) told law between small e =
+use_turned now m p Views law between small e =
     let all = reached now m p Views law e in
     turned_by now.core (dereferenced now.core m p) (dereference_events now.core m p) law all.leads (all.between between)
-command_turned now (Mutator m (Try p)) told law between small e =
-    let h = tried (nat_lt m now.core.mutators) (is_opened now.core m) (uses now.core m p) (is_slow now.core p) Range Closed NotHeld (Marked (now.core.cell p)) e in
-    view_turned now.core m p law between h.1 h.2
-command_turned now (Book inquiry) told law between small e = none_turned now.core law between
-command_turned now (Evacuator step) told law between small e = absurd told
 
 -- where an object finds no place, the pin and its owner's asking
 sought_turned : (s : State) (m p : ℕ) → Law s → Between s → is_opened s m ≡ true → uses s m p ≡ true → has_no_room s m p ≡ true → Turned s (sought_events s m p) (sought s m p)
@@ -528,32 +409,24 @@ sought_turned s m p law between opened ours full =
     let slow : is_slow s p ≡ true = (and_parts (is_slow s p) (not (is_some (comes_to (sought s m p) p))) full).0 in
     turned_by s (sought s m p) (sought_events s m p) law (sought_leads s m p law opened ours slow) (sought_between s m p law opened ours slow between)
 
--- a refused one: where a mark was found, the pin; where there was no place, the owner's asking too; else nothing
-refused_turned : (now : Moment) (c : Command) (why : Refusal) → IsNoStep c → Law now.core → Between now.core → refusal now c ≡ Some why →
-    Turned now.core (refused_events now c why) (refused_effect now c why).core
-refused_turned now (Mutator m (On p how)) NoRoom told law between e =
-    let h = lacks_place now m p how e in
-    sought_turned now.core m p law between h.0 h.1 h.2
-refused_turned now (Mutator m (Try p)) (Marked word) told law between e =
-    let h = marked_last (nat_lt m now.core.mutators) (is_opened now.core m) (uses now.core m p) (is_slow now.core p) (now.core.cell p) word e in
-    view_turned now.core m p law between h.1 h.2
-refused_turned now (Evacuator step) why told law between e = absurd told
-refused_turned now c why told law between e = none_turned now.core law between
-
--- each command
-turn_at : (now : Moment) (c : Command) (o : Option Refusal) → IsNoStep c → refusal now c ≡ o → Law now.core → Between now.core → WritesBytes c →
-    Turned now.core (unless o (refused_events now c) (turn_events now c)) (unless o (refused_effect now c) (turn_effect now c)).core
-turn_at now c None told e law between small = command_turned now c told law between small e
-turn_at now c (Some why) told e law between small = refused_turned now c why told law between e
-
 -- the events of a command lead to the moment after it
 pub turns : (now : Moment) (c : Command) → IsNoStep c → Law now.core → Between now.core → WritesBytes c → Turned now.core (events_for now c) (effect now c).core
-turns now c told law between small = turn_at now c (refusal now c) told refl law between small
+turns now c told law between small = by_way now (λ d es (x : Moment). WritesBytes d → Turned now.core es x.core)
+    (λ d _. none_turned now.core law between)
+    (λ m len ds p place e cell found _. new_turned now.core m len ds p place law between e cell found)
+    (λ m shut _. open_turned now.core m law between shut)
+    (λ m shut _. read_turned now.core m law between shut)
+    (λ m opened _. close_turned now.core m law between opened)
+    (λ m p opened ours _. view_turned now.core m p law between opened ours)
+    (λ m p how opened ours full _. sought_turned now.core m p law between opened ours full)
+    (λ m p how e small. use_turned now m p how law between small e)
+    (λ m p within ours unheld _. drop_turned now.core m p law between within ours unheld)
+    c told small
 
 -- what a command that isn't refused makes of the heap is what its events make
 pub made_by_events : (now : Moment) (t : State) (c : Command) → IsNoStep c → Law now.core → Between now.core → WritesBytes c → refusal now c ≡ None → t ≡ (turn_effect now c).core → t ≡ after_events now.core (events_for now c)
 made_by_events now t c told law between small none is =
-    is ∙ sym (command_turned now c told law between small none).ends ∙ ap (λ o. after_events now.core (unless o (refused_events now c) (turn_events now c))) (sym none)
+    is ∙ ap (λ o. (unless o (refused_effect now c) (turn_effect now c)).core) (sym none) ∙ sym (turns now c told law between small).ends
 
 -- what its events make is what it makes of the core
 pub events_make : (now : Moment) (t : State) (c : Command) → IsNoStep c → Law now.core → Between now.core → WritesBytes c → t ≡ after_events now.core (events_for now c) → t ≡ (effect now c).core

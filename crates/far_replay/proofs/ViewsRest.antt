@@ -3,13 +3,13 @@ use Rattle.std.proofs.Common.{◌≡◌, ◌≢◌, ℕ, ◌+◌, ◌/◌, true,
 use Rattle.std.proofs.lemmas.Bool.{true≢false}
 use Rattle.far_word.specs.declared.pointer.Place.{Place}
 use Rattle.far_word.specs.declared.sizes.TheConstants.{CELLS}
-use Rattle.far_core.specs.declared.event.Event.{Event}
-use Rattle.far_core.specs.declared.event.Event.TheVariants.{Close}
-use Rattle.far_core.specs.declared.event.Kind.TheVariants as kinds
-use Rattle.far_core.specs.state.Law.{Law}
+use Rattle.far_events.specs.declared.event.Event.{Event}
+use Rattle.far_events.specs.declared.event.Event.TheVariants.{Close}
+use Rattle.far_events.specs.declared.event.Kind.TheVariants as kinds
+use Rattle.far_events.specs.state.Law.{Law}
 use Rattle.far_word.specs.Bytes.{bytes_of}
-use Rattle.far_core.specs.state.State.{State, addr}
-use Rattle.far_core.specs.events.Step.{step_of, Fits}
+use Rattle.far_events.specs.state.State.{State, addr}
+use Rattle.far_events.specs.events.Step.{step_of, Fits}
 use Rattle.far_core.specs.world.World.{World, Object, Group}
 use Rattle.far_core.specs.world.WorldOf.{world_of, object_of, is_group}
 use Rattle.far_core.specs.laws.Worlds.{StepKeeps}
@@ -17,7 +17,7 @@ use Rattle.far_core.proofs.Keeps.{step_keeps}
 use Rattle.far_core.proofs.Steps.{agrees, step_does}
 use Rattle.far_core.proofs.WorldFacts.{view_rests}
 use Rattle.far_core.proofs.WorldLaws.{steps_keep}
-use Rattle.far_core.specs.events.Ranges.{after_events}
+use Rattle.far_events.specs.events.Ranges.{after_events}
 use Rattle.std.specs.List.{AllByRecursion as Each}
 use Rattle.far_alone.proofs.MadeLemmas.{made-append, made_law}
 

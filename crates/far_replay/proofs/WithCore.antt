@@ -1,7 +1,7 @@
 -- Where no other log was opened, the sealed logs are those that there were.
 use Rattle.std.proofs.Common.{◌≡◌, [], ◌∷◌, ◌++◌, ap, refl, if◌then◌else◌}
 use Rattle.std.proofs.lemmas.Bool.{eq-eqb}
-use Rattle.far_core.specs.state.State.{State}
+use Rattle.far_events.specs.state.State.{State}
 use Rattle.far_replay.specs.Moment.{Moment, with_core}
 
 pub same_order : (m : Moment) (t : State) → t.current ≡ m.core.current → (with_core m t).order ≡ m.order

@@ -4,11 +4,11 @@ use Rattle.std.proofs.lemmas.Bool.{cases_lt}
 use Rattle.far_word.specs.Bytes.{bytes_of, packed_word}
 use Rattle.far_word.specs.Sizes.{words_for}
 use Rattle.far_word.proofs.ByteLaws.{length-bytes_of, packs_back}
-use Rattle.far_core.specs.events.Ranges.{with_row}
+use Rattle.far_events.specs.events.Ranges.{with_row}
 use Rattle.far_alone.specs.Events.{first_word, words_touched}
 use Rattle.far_alone.specs.Objects.{with_range}
-use Rattle.far_core.proofs.Rows.{row_in, row_out, row_is}
-use Rattle.far_core.proofs.Words.{word_same}
+use Rattle.far_events.proofs.Rows.{row_in, row_out, row_is}
+use Rattle.far_events.proofs.Words.{word_same}
 use Rattle.far_alone.proofs.Spliced.{with_range_before, with_range_after}
 
 module _ (word : ℕ → ℕ) (d len from : ℕ) (bytes : List ℕ) (fits : from + length bytes ≤ len) (some : 0 < length bytes)

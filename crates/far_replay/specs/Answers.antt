@@ -4,9 +4,9 @@ use Rattle.std.specs.Bool.{MatchBool}
 use Rattle.std.specs.List.{flat_map}
 use Rattle.std.specs.Io.KnownBytes.{Appends, Keeps}
 use Rattle.far_word.specs.declared.refused.Refused.TheVariants.{Damaged, Device as Failed, Memory, Shape, Syntax}
-use Rattle.far_core.specs.declared.shape.Shape.{Shape as Size}
-use Rattle.far_core.specs.state.Opening.{opening}
-use Rattle.far_core.specs.state.Shape.{is_shape}
+use Rattle.far_events.specs.declared.shape.Shape.{Shape as Size}
+use Rattle.far_events.specs.state.Opening.{opening}
+use Rattle.far_events.specs.state.Shape.{is_shape}
 use Rattle.far_device.specs.Liar.{is_honest}
 use Rattle.far_device.specs.declared.liar.Lie.{Lie}
 use Rattle.far_device.specs.declared.liar.Lie.TheVariants.{Never, Short as Shortens, Flip as Inverts}

@@ -3,8 +3,8 @@ use Rattle.std.specs.Prelude.{true, List, [], ◌∷◌, ◌++◌, length}
 use Rattle.far_word.specs.declared.refused.Refused.{Refused as Refusal}
 use Rattle.far_word.specs.declared.refused.Refused.TheVariants.{NoRoom, Marked}
 use Rattle.far_word.specs.Sizes.{size_of}
-use Rattle.far_core.specs.declared.event.Event.{Event}
-use Rattle.far_core.specs.declared.event.Event.TheVariants.{ReadEpoch as ReadsEpoch, Close as Closes}
+use Rattle.far_events.specs.declared.event.Event.{Event}
+use Rattle.far_events.specs.declared.event.Event.TheVariants.{ReadEpoch as ReadsEpoch, Close as Closes}
 use Rattle.far_core.specs.state.Room.{room}
 use Rattle.far_text.specs.Command.{Command, New, Open, On, Reads, Writes, Views, Close, Where, Drop, Try, Epoch, Mutator, Book, Evacuator}
 use Rattle.far_alone.specs.Dereference.{dereferenced}

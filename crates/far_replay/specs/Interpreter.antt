@@ -6,11 +6,11 @@ use Rattle.far_word.specs.declared.sizes.TheConstants.{CELLS, LONGEST}
 use Rattle.far_word.specs.Bytes.{bytes_of}
 use Rattle.far_word.specs.declared.pointer.PtrWord.TheVariants.{Far}
 use Rattle.far_word.specs.Pointer.{read_of}
-use Rattle.far_core.specs.state.State.{State}
+use Rattle.far_events.specs.state.State.{State}
 use Rattle.far_evac.specs.EvacOf.{EvacOf}
 use Rattle.far_evac.specs.declared.answers.EvacFault.{EvacFault}
 use Rattle.far_hand.specs.declared.plain.Plain.{Plain}
-use Rattle.far_core.specs.events.Step.{data_len, is_opened}
+use Rattle.far_events.specs.events.Step.{data_len, is_opened}
 use Rattle.far_replay.specs.declared.turn.Access.{Access}
 use Rattle.far_replay.specs.Outcome.{reply_by}
 use Rattle.far_reply.specs.Reply.{Reply}
@@ -19,7 +19,7 @@ use Rattle.far_replay.specs.declared.outcome.Scratch.{Scratch}
 use Rattle.far_word.specs.declared.refused.Refused.TheVariants.{Damaged, Device, Memory}
 use Rattle.far_alone.specs.Dereference.{RefusesBringing, asked_for, come, comes_to, dereferenced, has_no_room, order_come, order_dereferenced, says_near}
 use Rattle.far_alone.specs.Effects.{with_view}
-use Rattle.far_core.specs.state.Law.{StoresBack}
+use Rattle.far_events.specs.state.Law.{StoresBack}
 use Rattle.far_replay.specs.Commanded.{KeepsFar, Outside, Serves, Refuses, Gives, Lacks}
 use Rattle.far_replay.specs.Far.{FarBytes, HoldsSame, IsTold, far_in}
 use Rattle.far_replay.specs.Moment.{FarSide, KeepsRound, state_in, with_stored}

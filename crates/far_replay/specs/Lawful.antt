@@ -1,6 +1,6 @@
 -- What is true of each moment of an output.
 use Rattle.std.specs.Prelude.{◌≡◌, ◌≢◌, ℕ, false, true}
-use Rattle.far_core.specs.state.Law.{Law}
+use Rattle.far_events.specs.state.Law.{Law}
 use Rattle.far_evac.specs.MomentLaw.{MomentLaw}
 use Rattle.far_replay.specs.Answers.{IsMoment}
 use Rattle.far_replay.specs.Moment.{Moment}

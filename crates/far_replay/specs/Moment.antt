@@ -2,8 +2,8 @@
 use Rattle.std.specs.Prelude.{◌≡◌, ℕ, false, Option, Some, []}
 use Rattle.far_core.specs.state.CoreState.{core_state}
 use Rattle.far_word.specs.declared.pointer.PtrWord.{PtrWord}
-use Rattle.far_core.specs.state.Law.{IsStored}
-use Rattle.far_core.specs.state.State.{State, put}
+use Rattle.far_events.specs.state.Law.{IsStored}
+use Rattle.far_events.specs.state.State.{State, put}
 use Rattle.far_device.specs.declared.fail_at.FailAt.{FailAt}
 use Rattle.far_device.specs.declared.liar.Liar.{Liar}
 use Rattle.far_device.specs.declared.mem.MemDevice.{MemDevice}

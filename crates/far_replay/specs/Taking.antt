@@ -8,7 +8,7 @@ use Rattle.far_word.specs.Pointer.{read_of}
 use Rattle.far_word.specs.Sizes.{size_of, bytes_taken}
 use Rattle.far_core.specs.laws.Observed.{live_bytes, dead_bytes, unused_bytes}
 use Rattle.far_core.specs.state.Room.{room}
-use Rattle.far_core.specs.state.State.{State, put}
+use Rattle.far_events.specs.state.State.{State, put}
 use Rattle.far_alone.specs.Effects.{is_slow}
 
 -- nothing is taken of the logs: each ends where it did, and has so many live, dead and unused bytes as before

@@ -2,13 +2,13 @@
 
 ghost use Rattle.std.specs.Prelude.{◌≡◌, ◌/◌, true, false, None, IsSome, IfOk, IfErr};
 ghost use Rattle.far_word.specs.declared.sizes.TheConstants.{CELLS};
-ghost use Rattle.far_core.specs.events.Step.{is_opened};
+ghost use Rattle.far_events.specs.events.Step.{is_opened};
 ghost use Rattle.far_word.specs.Pointer.{read_of};
 ghost use Rattle.far_replay.specs.Commanded.{KeepsFar, Outside};
 ghost use Rattle.far_alone.specs.Dereference.{RefusesView, says_near};
 ghost use Rattle.far_replay.specs.NotCome.{IsWhyNot, as_refused, why_of};
 ghost use Rattle.far_alone.specs.Effects.{is_slow, with_view};
-ghost use Rattle.far_core.specs.events.Ranges.{after_events};
+ghost use Rattle.far_events.specs.events.Ranges.{after_events};
 ghost use Rattle.far_alone.specs.Events.{open_events};
 ghost use Rattle.far_replay.specs.Far.{HoldsSame};
 ghost use Rattle.far_replay.specs.Interpreter.{Brings, BringsToView, Dereferences, refuser};
@@ -56,13 +56,18 @@ pub fn try_view(evac: &mut Evac<Plain, FarSide>, owner: u8, pointer: u16) -> Res
 // Pins an owner's object that isn't held. `Err` with the cell as it was, where the pin gave no view.
 #[inline(always)]
 fn pin(evac: &mut Evac<Plain, FarSide>, owner: u8, pointer: u16) -> Result<(), u64>
+    // the owner's scope is open, and the object is its own, in use, and not viewed yet
     requires opened { is_opened (state_in evac.old) owner ≡ true }
     requires own { pointer / CELLS ≡ owner }
     requires used { (state_in evac.old).used pointer ≡ true }
     requires unheld { (state_in evac.old).held pointer ≡ None }
+
+    // HOT is set; done: a view may rest on the object, and does; else the answer is its cell's word
     ensures state { state_in evac.new ≡ with_view (state_in evac.old) pointer }
     ensures viewed { IfOk result (λ _. is_slow (state_in evac.old) pointer ≡ false) }
     ensures word { IfErr result (λ word. (is_slow (state_in evac.old) pointer ≡ true) × (word ≡ (state_in evac.old).cell pointer)) }
+
+    // the order of logs, the round and the device stay
     ensures order { evac.new.book.order ≡ evac.old.book.order }
     ensures round { KeepsRound evac.old evac.new }
     ensures device { evac.new.book.device ≡ evac.old.book.device }
@@ -81,12 +86,19 @@ fn pin(evac: &mut Evac<Plain, FarSide>, owner: u8, pointer: u16) -> Result<(), u
 /// is left. A fetch takes no memory.
 #[inline]
 pub fn dereference(evac: &mut Evac<Plain, FarSide>, owner: u8, pointer: u16) -> Result<(), Refused>
+    // the owner's scope is open, and the object is its own and in use
     requires opened { is_opened (state_in evac.old) owner ≡ true }
     requires own { pointer / CELLS ≡ owner }
     requires used { (state_in evac.old).used pointer ≡ true }
+
+    // done: it's viewed, as the law of a dereference says, by the bytes that the device gave
     ensures done { IfOk result (λ _. (o : Outside) × Dereferences evac.old evac.new owner pointer o) }
+
+    // refused: nothing has changed but the marks that this refusal leaves, and the order stays
     ensures refused { IfErr result (λ why. RefusesView (state_in evac.old) owner pointer why (state_in evac.new)) }
     ensures shut { IfErr result (λ _. evac.new.book.order ≡ evac.old.book.order) }
+
+    // the round stays, and the device is to hold what it was to hold, and has used up what the refusal says; it refuses no object but a far one
     ensures round { KeepsRound evac.old evac.new }
     ensures spent { IfErr result (λ why. SpentBy (refuser why) evac.old evac.new) }
     ensures same { HoldsSame evac.old evac.new }

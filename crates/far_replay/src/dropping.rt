@@ -2,11 +2,11 @@
 
 ghost use Rattle.std.specs.Prelude.{◌≡◌, ◌<◌, ℕ, false, Some};
 ghost use Rattle.far_book.specs.book.FarSide.{kept_len};
-ghost use Rattle.far_core.specs.state.Law.{Law};
+ghost use Rattle.far_events.specs.state.Law.{Law};
 ghost use Rattle.far_word.specs.Pointer.{read_of};
 ghost use Rattle.far_text.specs.Command.{Mutator, Drop};
 ghost use Rattle.far_replay.specs.Events.{events_for};
-ghost use Rattle.far_core.specs.events.Ranges.{after_events};
+ghost use Rattle.far_events.specs.events.Ranges.{after_events};
 ghost use Rattle.far_replay.specs.Far.{far_in};
 ghost use Rattle.far_replay.specs.Interpreter.{StandsFor};
 ghost use Rattle.far_replay.specs.Moment.{KeepsRound, moment_in, state_in};

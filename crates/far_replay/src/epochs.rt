@@ -3,7 +3,7 @@
 ghost use Rattle.std.specs.Prelude.{◌≡◌, ◌<◌};
 ghost use Rattle.far_text.specs.Command.{Mutator, Epoch};
 ghost use Rattle.far_replay.specs.Events.{events_for};
-ghost use Rattle.far_core.specs.events.Ranges.{after_events};
+ghost use Rattle.far_events.specs.events.Ranges.{after_events};
 ghost use Rattle.far_replay.specs.Interpreter.{StandsFor};
 ghost use Rattle.far_replay.specs.Moment.{KeepsRound, moment_in, state_in};
 ghost use Rattle.far_replay.specs.Outcome.{IsInScratch};

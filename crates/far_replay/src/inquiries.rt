@@ -3,11 +3,11 @@
 ghost use Rattle.std.specs.Prelude.{◌≡◌, ◌<◌, ◌*◌, length, map, take, sum};
 ghost use Rattle.std.specs.List.{range_with_len};
 ghost use Rattle.far_word.specs.declared.sizes.TheConstants.{MOST_LOGS};
-ghost use Rattle.far_core.specs.state.Law.{Law};
+ghost use Rattle.far_events.specs.state.Law.{Law};
 ghost use Rattle.far_replay.specs.Audit.{bytes_by_log, lies_near, lies_far, pointers_by};
 ghost use Rattle.far_text.specs.Command.{Mutator, Book as AsksBook, Where, Log, Audit};
 ghost use Rattle.far_replay.specs.Events.{events_for};
-ghost use Rattle.far_core.specs.events.Ranges.{after_events};
+ghost use Rattle.far_events.specs.events.Ranges.{after_events};
 ghost use Rattle.far_replay.specs.Moment.{KeepsRound, moment_in, state_in};
 ghost use Rattle.far_replay.specs.Outcome.{reply_by, IsInScratch};
 ghost use Rattle.far_replay.specs.Turn.{log_line, reply_to};

@@ -3,8 +3,8 @@
 ghost use Rattle.std.specs.Prelude.{◌≡◌, ◌<◌, ◌≤◌, ◌/◌, true, false, IfSome, IfNone};
 ghost use Rattle.far_word.specs.declared.sizes.TheConstants.{CELLS};
 ghost use Rattle.far_book.specs.book.Ledger.{IsLowestFree};
-ghost use Rattle.far_core.specs.events.Legal.{Legal};
-ghost use Rattle.far_core.specs.events.Step.{after, answer, step_of};
+ghost use Rattle.far_events.specs.events.Legal.{Legal};
+ghost use Rattle.far_events.specs.events.Step.{after, answer, step_of};
 ghost use Rattle.far_hand.specs.Makers.{is_owners};
 ghost use Rattle.far_evac.specs.MomentLaw.{MomentLaw};
 ghost use Rattle.far_replay.specs.Moment.{KeepsRound, moment_in, state_in};

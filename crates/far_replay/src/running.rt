@@ -1,22 +1,20 @@
 //! A whole run: a text in, replies out.
 
 ghost use Rattle.std.specs.Prelude.{◌≡◌, ◌≢◌, ◌<◌, ◌∷◌, ◌++◌, ℕ, Option, true, false, cond, List, length, slice_index, take, Ok, Err, IfOk, IfErr, IfSome, OnOk};
-ghost use Rattle.far_reply.specs.Reply.{refusal_text};
+ghost use Rattle.far_reply.specs.Reply.{refusal_text, Reply as Answer, reply_text};
 ghost use Rattle.far_replay.specs.Outcome.{reply_by, told_by, IsInScratch};
 ghost use Rattle.far_reply.specs.Stream.{Holds, Writes};
 ghost use Rattle.std.specs.List.{flat_map};
-ghost use Rattle.far_core.specs.state.Opening.{opening};
-ghost use Rattle.far_core.specs.state.Shape.{is_shape};
+ghost use Rattle.far_events.specs.state.Opening.{opening};
+ghost use Rattle.far_events.specs.state.Shape.{is_shape};
 ghost use Rattle.far_replay.specs.Moment.{Moment, moment_in, moment_of, state_in};
 ghost use Rattle.std.specs.Option.{option_map};
-ghost use Rattle.far_text.specs.Command.{as_device};
+ghost use Rattle.far_text.specs.Command.{as_device, Heap};
 ghost use Rattle.far_replay.specs.Flawed.{IsFlawed};
 ghost use Rattle.far_replay.specs.Answers.{AnsweredBy, ByDevice, opened, flaws, is_true, lie_of, Outside, MayMakeHeap, WritesOutput, WritesAnswer, LeavesBehind, Leaves, end_of};
 ghost use Rattle.far_text.specs.declared.text.TheConstants.{LONGEST_TEXT};
 ghost use Rattle.far_text.specs.Grammar.{trace_of};
-ghost use Rattle.far_text.specs.Command.{Heap};
 ghost use Rattle.far_text.specs.Parsed.{as_trace};
-ghost use Rattle.far_reply.specs.Reply.{Reply as Answer, reply_text};
 ghost use Rattle.far_alone.specs.Between.{Between};
 ghost use Rattle.far_evac.specs.MomentLaw.{MomentLaw};
 ghost use Rattle.far_evac.specs.Strays.{NoneStrays};

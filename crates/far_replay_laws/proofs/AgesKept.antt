@@ -3,8 +3,8 @@ use Rattle.std.proofs.Common.{◌≡◌, ℕ, ◌==◌, ◌||◌, Bool, true, fa
 use Rattle.std.proofs.lemmas.Bool.{cond_both, eq-eqb, eqb-true, false≢true}
 use Rattle.std.proofs.lemmas.List.Elements.{filter-append}
 use Rattle.far_word.specs.declared.refused.Refused.{Refused as Refusal}
-use Rattle.far_core.specs.state.Law.{Law}
-use Rattle.far_core.specs.state.State.{State}
+use Rattle.far_events.specs.state.Law.{Law}
+use Rattle.far_events.specs.state.State.{State}
 use Rattle.far_word.specs.Pointer.{read_of}
 use Rattle.far_book.specs.book.Releasing.{order_without}
 use Rattle.far_evac.specs.Choosing.{after_selecting}
@@ -19,16 +19,15 @@ use Rattle.far_evac.specs.declared.phase.Phase.TheVariants.{Waiting}
 use Rattle.far_evac.proofs.Bools.{or_left, or_right}
 use Rattle.far_evac.proofs.Marks.{marking_frame}
 use Rattle.far_evac.proofs.Onward.{or_split}
-use Rattle.far_text.specs.Command.{Command, Try, Mutator, Book, Evacuator, By, Policy, Step, Select, Mark, Wait, Evacuate, Abort, Round}
+use Rattle.far_text.specs.Command.{Command, Mutator, Book, Evacuator, By, Policy, Step, Select, Mark, Wait, Evacuate, Abort, Round}
 use Rattle.far_replay_laws.specs.Ages.{KeepsAges, MayGiveBack}
 use Rattle.far_replay.specs.Answers.{Commanded, Served, IsMoment}
 use Rattle.far_evac.specs.declared.answers.Progress.{Progress}
-use Rattle.far_word.specs.declared.refused.Refused.TheVariants.{Marked}
 use Rattle.far_replay.proofs.Outcomes.{by_outcome}
 use Rattle.far_replay_laws.proofs.Stops.{LeftSome, Stood, begun, left_some, starts, stood_so}
 use Rattle.far_replay.specs.Events.{IsNoStep}
 use Rattle.far_replay.specs.Moment.{with_core, as_if_stored}
-use Rattle.far_reply.specs.Reply.{Reply, Evacuated, Refused}
+use Rattle.far_reply.specs.Reply.{Reply, Evacuated}
 use Rattle.far_replay.specs.Rounds.{after_round, chosen_by, given_by, logs_given, refused_step, rows_in, step_effect}
 use Rattle.far_replay_laws.specs.Steps.{Takes}
 use Rattle.far_replay.specs.Turn.{effect, refusal, refused_effect, turn_effect, unless}
@@ -216,7 +215,7 @@ misled_keeps row now r next m p is = as_misled row now r next m p (λ now c r ne
 pub ages_stay : (now : Moment) (c : Command) (r : Reply) (next : Moment) → IsMoment now → Commanded now c r next → KeepsAges now c next
 ages_stay now c r next is h = by_outcome now r next (λ d. KeepsAges now d next)
     (λ d h. served_keeps now d r next is h)
-    (λ why m p how h. let x = served_keeps now (Mutator m (Try p)) (Refused (Marked (now.core.cell p))) next is h.tried in record { gone = x.gone; since = x.since; order = x.order; given = x.given })
+    (λ why m p how h. let x = served_keeps now _ _ next is h.tried in record { gone = x.gone; since = x.since; order = x.order; given = x.given })
     (λ why objects count h. let x = served_keeps now (Evacuator (Evacuate objects)) (Evacuated h.progress) next is h.left in record { gone = x.gone; since = x.since; order = x.order; given = x.given })
     (λ why turns objects policy most count h.
     stop_keeps now (moment_lasts now is) policy most turns count objects h.stood next h.progress (stood_so now policy most turns h.stood h.turned) (left_some h.stood objects h.progress next h.left h.unfinished))

@@ -2,7 +2,7 @@
 use Rattle.std.proofs.Common.{◌≡◌, ℕ, true, subst, Option, List, ◌∷◌}
 use Rattle.std.specs.Prelude.{All}
 use Rattle.far_log.proofs.Members.{All-from}
-use Rattle.far_core.specs.state.Shape.{is_shape}
+use Rattle.far_events.specs.state.Shape.{is_shape}
 use Rattle.far_text.specs.Command.{Command, Device, New, Open, Close, Where, Drop, Try, Epoch, Logs, Log, Mutator, Book, Evacuator}
 use Rattle.far_text.specs.Written.{AllWriteBytes, WritesBytes}
 use Rattle.far_replay.specs.Answers.{Commanded, Served, IsMoment, first_moment, is_true, shape_of}

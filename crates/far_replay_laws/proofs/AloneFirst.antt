@@ -8,7 +8,7 @@ use Rattle.far_core.specs.world.WorldOf.{world_of}
 use Rattle.far_core.proofs.WorldFacts.{opening_world}
 use Rattle.far_replay.specs.Alone.{Alone}
 use Rattle.far_alone.specs.Own.{nothing, own_of}
-use Rattle.far_core.specs.state.Shape.{is_shape}
+use Rattle.far_events.specs.state.Shape.{is_shape}
 use Rattle.far_text.specs.Command.{Command, Device, Fail, Flawed, Flip, Short}
 use Rattle.far_text.specs.Written.{AllWriteBytes}
 use Rattle.far_replay.specs.Answers.{AnsweredBy, Outside, is_true, shape_of, first_moment}

@@ -3,10 +3,10 @@ use Rattle.std.proofs.Common.{◌≡◌, ℕ, ◌+◌, ◌<◌, ◌≤◌, Bool,
 use Rattle.std.specs.Bool.{MatchBool}
 use Rattle.std.proofs.lemmas.Bool.{eqb-true, eqb-false}
 use Rattle.far_word.specs.declared.refused.Refused.{Refused as Refusal}
-use Rattle.far_core.specs.declared.event.Event.{Event}
-use Rattle.far_core.specs.state.Law.{Law}
-use Rattle.far_core.specs.state.State.{State}
-use Rattle.far_core.specs.events.Step.{step_of}
+use Rattle.far_events.specs.declared.event.Event.{Event}
+use Rattle.far_events.specs.state.Law.{Law}
+use Rattle.far_events.specs.state.State.{State}
+use Rattle.far_events.specs.events.Step.{step_of}
 use Rattle.far_core.specs.world.WorldOf.{world_of}
 use Rattle.far_core.proofs.Leaving.{events_leave}
 use Rattle.far_replay.specs.Moment.{Moment, moment_of, as_if_stored}
@@ -20,11 +20,11 @@ use Rattle.far_evac.specs.declared.phase.Phase.TheVariants.{Evacuating}
 use Rattle.far_word.specs.declared.refused.Refused.TheVariants.{Marked, Memory}
 use Rattle.far_alone.proofs.AloneStates.{own_used}
 use Rattle.far_replay.proofs.Outcomes.{by_outcome, by_lie, by_stop}
-use Rattle.far_replay.proofs.Turns.{access_fact, may_reach}
+use Rattle.far_replay.proofs.Ways.{access_fact, may_reach}
 use Rattle.far_alone.specs.Between.{Between}
-use Rattle.far_text.specs.Command.{Command, New, Open, On, Use, Reads, Writes, Views, Close, Where, Drop, Try, Epoch, Mutator, Book, Evacuator, Evacuate, Round}
+use Rattle.far_text.specs.Command.{Command, Request, New, Open, On, Use, Reads, Writes, Views, Close, Where, Drop, Try, Epoch, Mutator, Book, Evacuator, Evacuate, Round}
 use Rattle.far_text.specs.Written.{WritesBytes, AllWriteBytes}
-use Rattle.far_core.specs.events.Ranges.{after_events}
+use Rattle.far_events.specs.events.Ranges.{after_events}
 use Rattle.far_alone.specs.EventRows.{AllSucceed}
 use Rattle.far_reply.specs.Reply.{Reply, Ended, Evacuated, Refused}
 use Rattle.far_replay.specs.Events.{events_for, IsNoStep}
@@ -65,16 +65,20 @@ none_made s (Some why) = refl
 abbrev pub Taught : State → ℕ → Command → Reply → State → Type 0
 Taught s m c r t = MatchBool (is_by m (speaker c)) (Knows m (own_of (world_of s) m) c r (own_of (world_of t) m)) (own_of (world_of t) m ≡ own_of (world_of s) m)
 
+-- by each request
+turns_each : (s : State) (k : ℕ) (request : Request) → Law s → Between s → WritesBytes (Mutator k request) → Turns s k (Mutator k request) (refusal (moment_of s) (Mutator k request))
+turns_each s k (New len ds) law between small = turns_new s k len ds law between
+turns_each s k Open law between small = turns_open s k law
+turns_each s k (On p how) law between small = turns_use s k p how law between small
+turns_each s k Close law between small = turns_close s k law
+turns_each s k (Where p) law between small = turns_where s k p law between
+turns_each s k (Drop p) law between small = turns_drop s k p law between
+turns_each s k (Try p) law between small = turns_try s k p law between
+turns_each s k Epoch law between small = turns_epoch s k law
+
 taught : (now : Moment) (m : ℕ) (c : Command) (r : Reply) (t : State) → IsNoStep c → Law now.core → Between now.core → m < now.core.mutators → WritesBytes c → IsCarriedOut now c r t → Taught now.core m c r t
-taught now m (Mutator k (New len ds)) r t told law between within small h = at_speaker now.core k m (Mutator k (New len ds)) r t (nat_eq k m) refl within (teaches now.core k (Mutator k (New len ds)) r t h.reply h.state h.made (turns_new now.core k len ds law between))
-taught now m (Mutator k Open) r t told law between within small h = at_speaker now.core k m (Mutator k Open) r t (nat_eq k m) refl within (teaches now.core k (Mutator k Open) r t h.reply h.state h.made (turns_open now.core k law))
-taught now m (Mutator k (On p how)) r t told law between within small h =
-    at_speaker now.core k m (Mutator k (On p how)) r t (nat_eq k m) refl within (teaches now.core k (Mutator k (On p how)) r t h.reply h.state h.made (turns_use now.core k p how law between small))
-taught now m (Mutator k Close) r t told law between within small h = at_speaker now.core k m (Mutator k Close) r t (nat_eq k m) refl within (teaches now.core k (Mutator k Close) r t h.reply h.state h.made (turns_close now.core k law))
-taught now m (Mutator k (Where p)) r t told law between within small h = at_speaker now.core k m (Mutator k (Where p)) r t (nat_eq k m) refl within (teaches now.core k (Mutator k (Where p)) r t h.reply h.state h.made (turns_where now.core k p law between))
-taught now m (Mutator k (Drop p)) r t told law between within small h = at_speaker now.core k m (Mutator k (Drop p)) r t (nat_eq k m) refl within (teaches now.core k (Mutator k (Drop p)) r t h.reply h.state h.made (turns_drop now.core k p law between))
-taught now m (Mutator k (Try p)) r t told law between within small h = at_speaker now.core k m (Mutator k (Try p)) r t (nat_eq k m) refl within (teaches now.core k (Mutator k (Try p)) r t h.reply h.state h.made (turns_try now.core k p law between))
-taught now m (Mutator k Epoch) r t told law between within small h = at_speaker now.core k m (Mutator k Epoch) r t (nat_eq k m) refl within (teaches now.core k (Mutator k Epoch) r t h.reply h.state h.made (turns_epoch now.core k law))
+taught now m (Mutator k request) r t told law between within small h =
+    at_speaker now.core k m (Mutator k request) r t (nat_eq k m) refl within (teaches now.core k (Mutator k request) r t h.reply h.state h.made (turns_each now.core k request law between small))
 taught now m (Book inquiry) r t told law between within small h = ap (λ x. own_of (world_of x) m) (h.state ∙ none_made now.core (refusal now (Book inquiry)))
 taught now m (Evacuator step) r t told law between within small h = absurd told
 
@@ -140,7 +144,7 @@ use_teaches why now k p how r next lasts h =
 pub next_mutators : (now : Moment) (c : Command) (r : Reply) (next : Moment) → Lasts now → WritesBytes c → Commanded now c r next → next.core.mutators ≡ now.core.mutators
 next_mutators now c r next lasts small h = by_outcome now r next (λ d. WritesBytes d → next.core.mutators ≡ now.core.mutators)
     (λ d h small. served_mutators now d r next lasts small h)
-    (λ why m p how h _. served_mutators now (Mutator m (Try p)) (Refused (Marked (now.core.cell p))) next lasts tt h.tried)
+    (λ why m p how h _. served_mutators now _ _ next lasts tt h.tried)
     (λ why objects count h _. served_mutators now (Evacuator (Evacuate objects)) (Evacuated h.progress) next lasts tt h.left)
     (λ why turns objects policy most count h small.
     served_mutators h.stood (Evacuator (Evacuate objects)) (Evacuated h.progress) next (after_step now (Round policy most turns) (Ended (Limit Evacuating)) h.stood lasts h.turned) tt h.left
@@ -151,7 +155,7 @@ next_mutators now c r next lasts small h = by_outcome now r next (λ d. WritesBy
 pub next_honest : (now : Moment) (c : Command) (r : Reply) (next : Moment) → Lasts now → WritesBytes c → Commanded now c r next → next.core.honest ≡ now.core.honest
 next_honest now c r next lasts small h = by_outcome now r next (λ d. WritesBytes d → next.core.honest ≡ now.core.honest)
     (λ d h small. served_honest now d r next lasts small h)
-    (λ why m p how h _. served_honest now (Mutator m (Try p)) (Refused (Marked (now.core.cell p))) next lasts tt h.tried)
+    (λ why m p how h _. served_honest now _ _ next lasts tt h.tried)
     (λ why objects count h _. served_honest now (Evacuator (Evacuate objects)) (Evacuated h.progress) next lasts tt h.left)
     (λ why turns objects policy most count h small.
     served_honest h.stood (Evacuator (Evacuate objects)) (Evacuated h.progress) next (after_step now (Round policy most turns) (Ended (Limit Evacuating)) h.stood lasts h.turned) tt h.left

@@ -12,12 +12,12 @@ use Rattle.far_word.specs.declared.sizes.TheConstants.{CELLS}
 use Rattle.far_word.specs.Bytes.{bytes_of}
 use Rattle.far_word.specs.Pointer.{read_of}
 use Rattle.far_word.proofs.ByteLaws.{length-bytes_of}
-use Rattle.far_core.specs.state.Law.{Law, in_use}
-use Rattle.far_core.specs.state.State.{State, put}
+use Rattle.far_events.specs.state.Law.{Law, in_use}
+use Rattle.far_events.specs.state.State.{State, put}
 use Rattle.far_core.specs.world.World.{FarSide}
 use Rattle.far_core.specs.world.WorldOf.{object_of, world_of}
-use Rattle.far_core.proofs.Cells.{held_near}
-use Rattle.far_core.proofs.Put.{put_both, put_other, put_same}
+use Rattle.far_events.proofs.Cells.{held_near}
+use Rattle.far_events.proofs.Put.{put_both, put_other, put_same}
 use Rattle.far_text.specs.Command.{Command}
 use Rattle.far_replay.specs.Alone.{IsMisled, Knows, KnowsBy}
 use Rattle.far_alone.specs.Own.{Own, bytes_in_world, own_of}

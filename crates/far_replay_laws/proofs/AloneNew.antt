@@ -13,23 +13,23 @@ use Rattle.far_word.specs.Header.{head_word}
 use Rattle.far_word.specs.Pointer.{word_of}
 use Rattle.far_word.specs.Sizes.{size_of, words_for}
 use Rattle.far_word.proofs.PointerLaws.{read_says}
-use Rattle.far_core.specs.declared.event.Event.{Event}
-use Rattle.far_core.specs.declared.event.Event.TheVariants.{Adopt as Adopts, Put as Puts, Name as Names}
-use Rattle.far_core.specs.state.Law.{Law}
+use Rattle.far_events.specs.declared.event.Event.{Event}
+use Rattle.far_events.specs.declared.event.Event.TheVariants.{Adopt as Adopts, Put as Puts, Name as Names}
+use Rattle.far_events.specs.state.Law.{Law}
 use Rattle.far_core.specs.state.Room.{room}
-use Rattle.far_core.specs.state.State.{State, put}
-use Rattle.far_core.specs.events.Step.{step_of}
+use Rattle.far_events.specs.state.State.{State, put}
+use Rattle.far_events.specs.events.Step.{step_of}
 use Rattle.far_core.specs.world.World.{World, Object}
 use Rattle.far_core.specs.world.WorldOf.{world_of}
 use Rattle.far_core.specs.world.Steps.{Makes}
-use Rattle.far_core.proofs.Cells.{unused}
+use Rattle.far_events.proofs.Cells.{unused}
 use Rattle.far_core.proofs.Keeps.{step_keeps}
 use Rattle.far_replay.specs.Moment.{moment_of}
 use Rattle.far_alone.specs.Own.{own_of, bytes_in_world}
 use Rattle.far_replay.specs.Alone.{HasAll, HasLeft}
 use Rattle.far_alone.specs.Between.{Between}
 use Rattle.far_text.specs.Command.{New, Mutator}
-use Rattle.far_core.specs.events.Ranges.{after_events}
+use Rattle.far_events.specs.events.Ranges.{after_events}
 use Rattle.far_alone.specs.EventRows.{AllSucceed}
 use Rattle.far_reply.specs.Reply.{Refused}
 use Rattle.far_alone.specs.Events.{new_events, zero_puts}

@@ -5,7 +5,7 @@ use Rattle.std.proofs.lemmas.Bool.{and_parts, cases_eq}
 use Rattle.far_word.specs.Bytes.{bytes_of}
 use Rattle.far_word.specs.declared.sizes.TheConstants.{CELLS}
 use Rattle.far_core.specs.world.WorldOf.{world_of}
-use Rattle.far_core.proofs.Put.{put_old}
+use Rattle.far_events.proofs.Put.{put_old}
 use Rattle.far_text.specs.Command.{Command}
 use Rattle.far_text.specs.Written.{AllWriteBytes, WritesBytes}
 use Rattle.far_replay.specs.Alone.{Alone, Knows, is_by, speaker}

@@ -10,13 +10,13 @@ use Rattle.far_word.specs.declared.sizes.TheConstants.{CELLS}
 use Rattle.far_word.specs.Pointer.{read_of}
 use Rattle.far_word.specs.declared.pointer.PtrWord.{PtrWord}
 use Rattle.far_book.specs.book.Home.{home_of}
-use Rattle.far_core.specs.declared.event.Event.{Event}
-use Rattle.far_core.specs.declared.event.Event.TheVariants.{ReadEpoch as ReadsEpoch, Open as Opens, Close as Closes}
-use Rattle.far_core.specs.state.Law.{Law, held_place, in_use}
-use Rattle.far_core.specs.state.State.{State, put}
+use Rattle.far_events.specs.declared.event.Event.{Event}
+use Rattle.far_events.specs.declared.event.Event.TheVariants.{ReadEpoch as ReadsEpoch, Open as Opens, Close as Closes}
+use Rattle.far_events.specs.state.Law.{Law, held_place, in_use}
+use Rattle.far_events.specs.state.State.{State, put}
 use Rattle.far_core.proofs.events.Soil.{soil_stays}
-use Rattle.far_core.specs.events.Soil.{after_soil}
-use Rattle.far_core.specs.events.Step.{is_opened, step_of}
+use Rattle.far_events.specs.events.Soil.{after_soil}
+use Rattle.far_events.specs.events.Step.{is_opened, step_of}
 use Rattle.far_core.specs.world.World.{World, Object}
 use Rattle.far_core.specs.world.WorldOf.{world_of}
 use Rattle.far_core.specs.world.Steps.{with_bytes}
@@ -26,7 +26,7 @@ use Rattle.far_replay.specs.Alone.{Knows, IsOut, IsIn}
 use Rattle.far_alone.specs.Own.{Own, own_of, bytes_in_world}
 use Rattle.far_alone.specs.Between.{Between}
 use Rattle.far_text.specs.Command.{Command, Open, On, Use, Reads, Writes, Views, Close, Where, Drop, Try, Epoch, Mutator}
-use Rattle.far_core.specs.events.Ranges.{after_events}
+use Rattle.far_events.specs.events.Ranges.{after_events}
 use Rattle.far_alone.specs.EventRows.{AllSucceed}
 use Rattle.far_reply.specs.Reply.{Reply, Done, Refused}
 use Rattle.far_replay.specs.Events.{turn_events, refused_events}
@@ -42,7 +42,8 @@ use Rattle.far_alone.proofs.AloneBytes.{over_with_range}
 use Rattle.far_alone.proofs.Drops.{drop_ends, drop_is, drop_world, own_gone, own_left, unheld_is}
 use Rattle.far_replay.proofs.Dereferences.{Derefs, derefs, sought_bytes, sought_held, sought_leads, view_bytes, view_views}
 use Rattle.far_alone.proofs.Leading.{Leads}
-use Rattle.far_replay.proofs.Turns.{Access, led, read_leads, stores_lead, write_leads}
+use Rattle.far_replay.proofs.Turns.{led, read_leads, stores_lead, write_leads}
+use Rattle.far_replay.proofs.Ways.{Access}
 use Rattle.far_alone.proofs.Views.{fast_seen, slow_parts, slow_view, view_is}
 use Rattle.far_alone.proofs.Soiling.{soil_law}
 use Rattle.far_alone.proofs.Spliced.{AreBytes, packed_wide, with_range_bytes}

@@ -12,7 +12,7 @@ use Rattle.far_word.specs.Pointer.{read_of}
 use Rattle.far_book.specs.declared.home.Home.TheVariants as homes
 use Rattle.far_book.specs.book.Rows.{row_of}
 use Rattle.far_core.specs.laws.Observed.{live_bytes}
-use Rattle.far_core.specs.state.State.{State}
+use Rattle.far_events.specs.state.State.{State}
 use Rattle.far_evac.specs.declared.census.Housed.{Housed}
 use Rattle.far_evac.specs.declared.census.LogState.{LogState}
 use Rattle.far_evac.specs.Census.{homes_of, housed_in, kind_in, logs_of}

@@ -1,41 +1,36 @@
 -- What events are for comes to pass: a pin gives a view where its object is at hand, and the naming of a new object wins.
-use Rattle.std.proofs.Common.{◌≡◌, ◌≢◌, ℕ, ◌+◌, ◌/◌, true, cond, nat_eq, nat_lt, refl, sym, ap, subst, ◌∙◌, is_some, Option, Some, None, List, [], ◌∷◌, ◌++◌, length, if◌then◌else◌}
-use Rattle.std.proofs.lemmas.Bool.{and_parts, cond_both, eq-eqb, ltb-true, true≢false}
+use Rattle.std.proofs.Common.{◌≡◌, ◌≢◌, ℕ, ◌+◌, ◌/◌, true, cond, nat_eq, refl, sym, ap, subst, ◌∙◌, is_some, Option, Some, List, [], ◌∷◌, ◌++◌, length, if◌then◌else◌}
+use Rattle.std.proofs.lemmas.Bool.{and_parts, cond_both, eq-eqb, true≢false}
 use Rattle.far_word.specs.declared.pointer.Place.{Place}
-use Rattle.far_word.specs.declared.refused.Refused.{Refused as Refusal}
-use Rattle.far_word.specs.declared.refused.Refused.TheVariants.{NoRoom, Closed, NotHeld, Range, Held, Marked}
 use Rattle.far_word.specs.declared.sizes.TheConstants.{CELLS}
 use Rattle.far_word.specs.Bytes.{packed_word}
 use Rattle.far_word.specs.Header.{head_word}
 use Rattle.far_word.specs.Pointer.{read_of}
-use Rattle.far_word.specs.Sizes.{size_of, words_for}
-use Rattle.far_core.specs.declared.event.Event.{Event}
-use Rattle.far_core.specs.declared.event.Event.TheVariants.{ReadEpoch as ReadsEpoch, Open as Opens, Pin as Pins, Load as Loads, Store as Stores, Soil as Soils, Adopt as Adopts, Put as Puts, Name as Names}
-use Rattle.far_core.specs.declared.event.Reply.{Reply as Answer}
-use Rattle.far_core.specs.declared.event.Reply.TheVariants.{Refused as Failed, Done as Wins, Word}
-use Rattle.far_core.specs.state.Law.{Law}
-use Rattle.far_core.specs.state.Room.{room}
-use Rattle.far_core.specs.state.State.{State}
-use Rattle.far_core.specs.events.Step.{step_of, is_legal, is_opened, after, answer, pin_answer}
+use Rattle.far_word.specs.Sizes.{words_for}
+use Rattle.far_events.specs.declared.event.Event.{Event}
+use Rattle.far_events.specs.declared.event.Event.TheVariants.{ReadEpoch as ReadsEpoch, Open as Opens, Pin as Pins, Load as Loads, Store as Stores, Soil as Soils, Adopt as Adopts, Put as Puts, Name as Names}
+use Rattle.far_events.specs.declared.event.Reply.{Reply as Answer}
+use Rattle.far_events.specs.declared.event.Reply.TheVariants.{Refused as Failed, Done as Wins, Word}
+use Rattle.far_events.specs.state.Law.{Law}
+use Rattle.far_events.specs.state.State.{State}
+use Rattle.far_events.specs.events.Step.{step_of, is_legal, after, answer, pin_answer}
 use Rattle.far_core.proofs.KeepOwner.{nonzero}
-use Rattle.far_text.specs.Command.{Command, New, Open, On, Reads, Writes, Views, Close, Where, Drop, Try, Epoch, Mutator, Book, Evacuator}
+use Rattle.far_text.specs.Command.{Command, On, Reads, Writes, Views, Mutator, Use}
 use Rattle.far_alone.specs.Dereference.{come, dereferenced, sought}
 use Rattle.far_book.specs.book.Effects.{near_word}
-use Rattle.far_alone.specs.Effects.{is_slow}
-use Rattle.far_core.specs.events.Ranges.{after_events}
+use Rattle.far_events.specs.events.Ranges.{after_events}
 use Rattle.far_alone.specs.EventRows.{ComesToPass, AllComeToPass, AtHand}
-use Rattle.far_replay.specs.Events.{IsNoStep, turn_events, refused_events}
+use Rattle.far_replay.specs.Events.{IsNoStep, turn_events, events_for}
 use Rattle.far_alone.specs.Events.{zero_puts, new_events, view_events, sought_events, come_events, dereference_events, load_events, soil_events, store_events, first_loads, last_loads, part_events, first_word, words_touched, starts_inside, ends_inside}
 use Rattle.far_replay_laws.specs.Headline.{IsAtHandFor}
 use Rattle.far_replay.specs.Moment.{Moment}
-use Rattle.far_alone.specs.Objects.{uses, data_of, with_range, lowest_cell}
-use Rattle.far_replay.specs.Turn.{refusal, unless}
+use Rattle.far_alone.specs.Objects.{uses, data_of, with_range}
 use Rattle.far_alone.proofs.AloneStates.{lowest_free}
-use Rattle.far_alone.proofs.Drops.{drop_comes, unheld_is}
+use Rattle.far_alone.proofs.Drops.{drop_comes}
 use Rattle.std.specs.List.{AllByRecursion as Each}
 use Rattle.far_alone.proofs.Each.{Each-append, Each-row}
 use Rattle.far_alone.proofs.MadeLemmas.{AllComeToPass-append}
-use Rattle.far_replay.proofs.Turns.{access_fact, lacks_place, may_reach, three, tried, marked_last}
+use Rattle.far_replay.proofs.Ways.{by_way, may_reach}
 use Rattle.far_alone.proofs.Views.{ready_of, Ready-view, hand_has_room, hand_is_fast}
 
 -- ---- events that any answer serves
@@ -105,26 +100,9 @@ new_comes s m len ds _ _ free = tt
 is_named : (s : State) (m p : ℕ) → Law s → uses s m p ≡ true → s.cell p ≢ 0
 is_named s m p law ours = nonzero s law p (and_parts (nat_eq (p / CELLS) m) (s.used p) ours).1
 
--- a refused command makes no event, where its object is at hand
-refused_come : (now : Moment) (c : Command) (why : Refusal) → IsNoStep c → refusal now c ≡ Some why → Law now.core → IsAtHandFor now c → AllComeToPass now.core (refused_events now c why)
-refused_come now (Mutator m (On p how)) NoRoom told e law hand =
-    let h = lacks_place now m p how e in
-    absurd (true≢false (sym h.2 ∙ hand_has_room now.core m p (hand (is_named now.core m p law h.1))))
-refused_come now (Mutator m (Try p)) (Marked word) told e law hand =
-    let h = marked_last (nat_lt m now.core.mutators) (is_opened now.core m) (uses now.core m p) (is_slow now.core p) (now.core.cell p) word e in
-    let at_hand : AtHand now.core p = hand (nonzero now.core law p (and_parts (nat_eq (p / CELLS) m) (now.core.used p) h.2).1) in
-    absurd (true≢false (sym h.3 ∙ hand_is_fast now.core p at_hand))
-refused_come now (Evacuator step) why told e law hand = absurd told
-refused_come now c why told e law hand = tt
-
-pub all_come : (now : Moment) (c : Command) (o : Option Refusal) → IsNoStep c → refusal now c ≡ o → Law now.core → IsAtHandFor now c →
-    AllComeToPass now.core (unless o (refused_events now c) (turn_events now c))
-all_come now c (Some why) told e law hand = refused_come now c why told e law hand
-all_come now (Mutator m (New len ds)) None told e law hand = new_comes now.core m len ds (lowest_cell now.core m) (room now.core (size_of len) true) (lowest_free now.core m)
-all_come now (Mutator m Open) None told e law hand =
-    cond_both (is_some (now.core.remembered m)) (Opens m ∷ []) (ReadsEpoch m ∷ Opens m ∷ []) (AllComeToPass now.core) (λ _. (tt, tt)) (λ _. (tt, (tt, tt)))
-all_come now (Mutator m (On p (Writes from bytes))) None told e law hand =
-    let h = access_fact now.core m p from (length bytes) e in
+-- a read, a write or a view
+use_comes : (now : Moment) (m p : ℕ) (how : Use) → AtHand now.core p → AllComeToPass now.core (turn_events now (Mutator m (On p how)))
+use_comes now m p (Writes from bytes) hand =
     let view : List Event = dereference_events now.core m p in
     let part : List Event = part_events m p from (length bytes) in
     let first : ℕ = first_word from in
@@ -133,23 +111,25 @@ all_come now (Mutator m (On p (Writes from bytes))) None told e law hand =
     let soil : List Event = soil_events (dereferenced now.core m p) m p in
     AllComeToPass-append now.core (view ++ soil ++ part) (store_events m p first touched new)
     (AllComeToPass-append now.core (view ++ soil) part
-    (AllComeToPass-append now.core view soil (deref_comes now.core m p (hand (is_named now.core m p law h.ours))) (all_sure (after_events now.core view) soil (soils (dereferenced now.core m p) m p)))
+    (AllComeToPass-append now.core view soil (deref_comes now.core m p hand) (all_sure (after_events now.core view) soil (soils (dereferenced now.core m p) m p)))
     (all_sure (after_events now.core (view ++ soil)) part (parts m p from (length bytes))))
     (all_sure (after_events now.core (view ++ soil ++ part)) (store_events m p first touched new) (stores m p first touched new))
-all_come now (Mutator m (On p (Reads from len))) None told e law hand =
-    let h = access_fact now.core m p from len e in
+use_comes now m p (Reads from len) hand =
     let view : List Event = dereference_events now.core m p in
     let loaded : List Event = load_events m p (first_word from) (words_touched from len) in
-    AllComeToPass-append now.core view loaded (deref_comes now.core m p (hand (is_named now.core m p law h.ours))) (all_sure (after_events now.core view) loaded (loads m p (first_word from) (words_touched from len)))
-all_come now (Mutator m Close) None told e law hand = (tt, tt)
-all_come now (Mutator m (Where p)) None told e law hand = tt
-all_come now (Mutator m (Drop p)) None told e law hand =
-    let h = three (nat_lt m now.core.mutators) (uses now.core m p) (is_some (now.core.held p)) Range NotHeld Held e in
-    drop_comes now.core m p law (ltb-true m now.core.mutators h.0) h.1 (unheld_is (now.core.held p) h.2)
-all_come now (Mutator m (On p Views)) None told e law hand = deref_comes now.core m p (hand (is_named now.core m p law (may_reach now m p Views e).1))
-all_come now (Mutator m (Try p)) None told e law hand =
-    let h = tried (nat_lt m now.core.mutators) (is_opened now.core m) (uses now.core m p) (is_slow now.core p) Range Closed NotHeld (Marked (now.core.cell p)) e in
-    view_comes now.core m p (hand (nonzero now.core law p (and_parts (nat_eq (p / CELLS) m) (now.core.used p) h.2).1))
-all_come now (Mutator m Epoch) None told e law hand = (tt, tt)
-all_come now (Book inquiry) None told e law hand = tt
-all_come now (Evacuator step) None told e law hand = absurd told
+    AllComeToPass-append now.core view loaded (deref_comes now.core m p hand) (all_sure (after_events now.core view) loaded (loads m p (first_word from) (words_touched from len)))
+use_comes now m p Views hand = deref_comes now.core m p hand
+
+-- each event of a command comes to pass, where its object is at hand
+pub all_come : (now : Moment) (c : Command) → IsNoStep c → Law now.core → IsAtHandFor now c → AllComeToPass now.core (events_for now c)
+all_come now c told law hand = by_way now (λ d es (x : Moment). IsAtHandFor now d → AllComeToPass now.core es)
+    (λ d _. tt)
+    (λ m len ds p place e cell found _. new_comes now.core m len ds (Some p) (Some place) (λ q is. lowest_free now.core m q (cell ∙ is)))
+    (λ m shut _. cond_both (is_some (now.core.remembered m)) (Opens m ∷ []) (ReadsEpoch m ∷ Opens m ∷ []) (AllComeToPass now.core) (λ _. (tt, tt)) (λ _. (tt, (tt, tt))))
+    (λ m shut _. (tt, tt))
+    (λ m opened _. (tt, tt))
+    (λ m p opened ours hand. view_comes now.core m p (hand (is_named now.core m p law ours)))
+    (λ m p how opened ours full hand. absurd (true≢false (sym full ∙ hand_has_room now.core m p (hand (is_named now.core m p law ours)))))
+    (λ m p how e hand. use_comes now m p how (hand (is_named now.core m p law (may_reach now m p how e).1)))
+    (λ m p within ours unheld _. drop_comes now.core m p law within ours unheld)
+    c told hand

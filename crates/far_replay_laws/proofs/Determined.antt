@@ -5,7 +5,7 @@ use Rattle.std.proofs.lemmas.Bool.{false≢true}
 use Rattle.std.specs.List.{flat_map}
 use Rattle.far_word.specs.declared.refused.Refused.{Refused as Refusal}
 use Rattle.far_word.specs.declared.refused.Refused.TheVariants.{Memory, Shape}
-use Rattle.far_core.specs.state.Shape.{is_shape}
+use Rattle.far_events.specs.state.Shape.{is_shape}
 use Rattle.far_evac.specs.declared.answers.Progress.{Progress}
 use Rattle.far_evac.specs.Choosing.{after_selecting}
 use Rattle.far_evac.specs.Moment.{Tally, plus, progress_of, tally_of}

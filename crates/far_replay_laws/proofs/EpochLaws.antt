@@ -4,9 +4,9 @@ use Rattle.std.specs.Prelude.{not}
 use Rattle.std.proofs.lemmas.Bool.{lt-ltb}
 use Rattle.far_word.specs.declared.refused.Refused.{Refused as Refusal}
 use Rattle.far_word.specs.declared.refused.Refused.TheVariants.{AlreadyOpen, Range}
-use Rattle.far_core.specs.events.Step.{is_opened, scope_word_of}
-use Rattle.far_core.specs.state.State.{State}
-use Rattle.far_core.proofs.Put.{put_same}
+use Rattle.far_events.specs.events.Step.{is_opened, scope_word_of}
+use Rattle.far_events.specs.state.State.{State}
+use Rattle.far_events.proofs.Put.{put_same}
 use Rattle.far_text.specs.Command.{Open, Close, Epoch, Mutator}
 use Rattle.far_alone.specs.Effects.{epoch_for}
 use Rattle.far_replay_laws.specs.Headline.{EpochsAreTold, ScopesOpenAtEpochs, ClosesForget}

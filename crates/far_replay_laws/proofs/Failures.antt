@@ -5,7 +5,7 @@ use Rattle.std.specs.Bool.{MatchBool}
 use Rattle.std.specs.List.{flat_map}
 use Rattle.far_word.specs.declared.refused.Refused.{Refused as Refusal}
 use Rattle.far_word.specs.declared.refused.Refused.TheVariants.{Damaged, Device as Failed, Memory, Shape}
-use Rattle.far_core.specs.state.Shape.{is_shape}
+use Rattle.far_events.specs.state.Shape.{is_shape}
 use Rattle.far_book.specs.declared.home.Home.{Home}
 use Rattle.far_word.specs.Pointer.{read_of}
 use Rattle.far_book.specs.book.Home.{home_of}

@@ -1,25 +1,25 @@
 -- The device refuses what is far, which stays so, and has room to come to.
-use Rattle.std.proofs.Common.{◌≡◌, ℕ, Bool, true, false, not, nat_lt, is_some, refl, sym, ap, ◌∙◌, subst, Option, Some, None, List, length}
+use Rattle.std.proofs.Common.{◌≡◌, ℕ, Bool, true, false, not, nat_lt, is_some, refl, sym, ap, ◌∙◌, subst, Option, Some, None, List, [], ◌∷◌, length}
 use Rattle.std.specs.Prelude.{◌&&◌}
 use Rattle.std.specs.List.{find, range_with_len}
-use Rattle.std.proofs.lemmas.Bool.{cond_both, not-false}
+use Rattle.std.proofs.lemmas.Bool.{and_parts, cond_both, false≢true, not-false}
 use Rattle.far_word.specs.declared.mark.Marks.{Marks}
 use Rattle.far_word.specs.declared.pointer.PtrWord.{PtrWord}
 use Rattle.far_word.specs.declared.pointer.PtrWord.TheVariants.{Near, Far}
 use Rattle.far_word.specs.declared.refused.Refused.{Refused as Refusal}
-use Rattle.far_word.specs.declared.refused.Refused.TheVariants.{Marked}
+use Rattle.far_word.specs.declared.refused.Refused.TheVariants.{Damaged, Device, Marked, Memory}
 use Rattle.far_word.specs.Pointer.{read_of}
 use Rattle.far_word.specs.Sizes.{size_of}
-use Rattle.far_core.specs.events.Step.{after_pin, is_opened}
-use Rattle.far_core.specs.state.Law.{Law}
+use Rattle.far_events.specs.events.Step.{after_pin, is_opened}
+use Rattle.far_events.specs.state.Law.{Law}
 use Rattle.far_core.specs.state.Room.{room}
-use Rattle.far_core.specs.state.State.{State}
-use Rattle.far_core.proofs.Bounds.{some_of}
+use Rattle.far_events.specs.state.State.{State}
+use Rattle.far_events.proofs.Bounds.{some_of}
 use Rattle.far_evac.specs.declared.answers.Polled.{Polled}
 use Rattle.far_evac.specs.declared.answers.Polled.TheVariants as polls
 use Rattle.far_evac.specs.Waiting.{polled}
 use Rattle.far_policy.specs.Scripted.{is_bad, judged}
-use Rattle.far_text.specs.Command.{Command, New, On, Views, Drop, Try, Logs, Log, Audit, Mutator, Book, Evacuator, Step, By, Script, Select, Wait, Round}
+use Rattle.far_text.specs.Command.{Command, On, Writes, Log, Mutator, Book, Evacuator, Step, By, Script, Select, Wait, Round}
 use Rattle.far_replay.specs.Answers.{IsMoment, Served, Unbrought}
 use Rattle.far_replay.specs.Commanded.{LiesFar}
 use Rattle.far_alone.specs.Dereference.{comes_to, has_no_room, sought, sought_of}
@@ -27,17 +27,18 @@ use Rattle.far_alone.specs.Effects.{is_slow, with_view}
 use Rattle.far_replay.specs.Moment.{Moment}
 use Rattle.far_alone.specs.Objects.{uses}
 use Rattle.far_reply.specs.Reply.{Reply, Refused}
+use Rattle.far_replay.specs.Events.{IsNoStep}
 use Rattle.far_replay.specs.Rounds.{choice_causes, rows_in, step_causes, wait_causes}
-use Rattle.far_replay.specs.Turn.{causes, refusal, turn_reply}
+use Rattle.far_replay.specs.Turn.{causes}
 use Rattle.far_replay.proofs.Dereferences.{sought_word}
 use Rattle.far_replay.proofs.Lasting.{moment_lasts}
 use Rattle.far_replay.proofs.Outcomes.{by_outcome}
 use Rattle.far_replay.proofs.TakingView.{asked_word, comes_place, place_by}
-use Rattle.far_replay.proofs.Turns.{marked_last, may_reach}
+use Rattle.far_replay.proofs.Ways.{marked_last, may_reach}
 use Rattle.far_replay_laws.specs.FromOutside.{ComesSomewhere, DeviceRefusesFar, HasRoomFor, IsFarFor}
 use Rattle.far_replay_laws.specs.LeftMarks.{GainsHot}
 use Rattle.far_replay_laws.proofs.LeavingMarks.{served_leaves}
-use Rattle.far_replay_laws.proofs.Refusals.{not_halted, EachFirst, IsFromOutside, among, from_cause, keeps_outside, turn_is_no_refusal}
+use Rattle.far_replay_laws.proofs.Refusals.{cause_of, not_halted, EachFirst, IsFromOutside, among, keeps_outside}
 
 -- ---- a command that is served is never refused so
 abbrev NeverFar : Refusal → Type 0
@@ -58,20 +59,40 @@ step_never now Wait = ((λ _ k. k), λ _. wait_never (polled now.core))
 step_never now (Round policy most turns) = ((λ _ k. k), λ _. ((λ _ k. k), λ _. tt))
 step_never now _ = ((λ _ k. k), λ _. tt)
 
+-- a refusal that isn't from outside
+abbrev is_inside : Refusal → Bool
+is_inside Device = false
+is_inside Damaged = false
+is_inside Memory = false
+is_inside why = true
+
+inside_never : (why : Refusal) → is_inside why ≡ true → NeverFar why
+inside_never Device e = absurd (false≢true e)
+inside_never Damaged e = absurd (false≢true e)
+inside_never Memory e = absurd (false≢true e)
+inside_never why e = λ k. k
+
+abbrev all_inside : List (Bool × Refusal) → Bool
+all_inside [] = true
+all_inside (cause ∷ others) = is_inside cause.1 && all_inside others
+
+inside_first : (cs : List (Bool × Refusal)) → all_inside cs ≡ true → EachFirst NeverFar cs
+inside_first [] e = tt
+inside_first (c ∷ cs) e = let both = and_parts (is_inside c.1) (all_inside cs) e in ((λ _. inside_never c.1 both.0), (λ _. inside_first cs both.1))
+
+told_inside : (now : Moment) (c : Command) → IsNoStep c → all_inside (causes now c) ≡ true
+told_inside now (Mutator m (On p (Writes from bytes))) told = refl
+told_inside now (Book (Log l)) told = refl
+told_inside now (Evacuator step) told = absurd told
+told_inside now c told = refl
+
 command_never : (now : Moment) (c : Command) → EachFirst NeverFar (causes now c)
-command_never now (Mutator m (New len ds)) = ((λ _ k. k), λ _. ((λ _ k. k), λ _. ((λ _ k. k), λ _. ((λ _ k. k), λ _. tt))))
-command_never now (Mutator m (On p Views)) = ((λ _ k. k), λ _. ((λ _ k. k), λ _. ((λ _ k. k), λ _. ((λ _ k. k), λ _. tt))))
-command_never now (Mutator m (On p how)) = ((λ _ k. k), λ _. ((λ _ k. k), λ _. ((λ _ k. k), λ _. ((λ _ k. k), λ _. ((λ _ k. k), λ _. tt)))))
-command_never now (Mutator m (Drop p)) = ((λ _ k. k), λ _. ((λ _ k. k), λ _. ((λ _ k. k), λ _. tt)))
-command_never now (Mutator m (Try p)) = ((λ _ k. k), λ _. ((λ _ k. k), λ _. ((λ _ k. k), λ _. ((λ _ k. k), λ _. tt))))
-command_never now (Book Logs) = tt
-command_never now (Book (Log l)) = ((λ _ k. k), λ _. tt)
-command_never now (Book Audit) = tt
+command_never now (Mutator m request) = inside_first (causes now (Mutator m request)) (told_inside now (Mutator m request) tt)
+command_never now (Book inquiry) = inside_first (causes now (Book inquiry)) (told_inside now (Book inquiry) tt)
 command_never now (Evacuator step) = step_never now step
-command_never now _ = ((λ _ k. k), λ _. ((λ _ k. k), λ _. tt))
 
 pub served_never : (now : Moment) (c : Command) (r : Reply) (next : Moment) (why : Refusal) → Served now c r next → r ≡ Refused why → ¬ IsFromOutside why
-served_never now c r next why h e = among NeverFar (causes now c) why (command_never now c) (from_cause (refusal now c) (turn_reply now c) why (turn_is_no_refusal now c why) (sym h.reply ∙ e))
+served_never now c r next why h e = among NeverFar (causes now c) why (command_never now c) (cause_of now c r next why h e)
 
 -- ---- and what is far stays so, with HOT
 still_far : (o n : Option PtrWord) (len ds : ℕ) (marks : Marks) → o ≡ Some (Far len ds marks) → GainsHot o n → (k d : ℕ) × (m : Marks) × (n ≡ Some (Far k d m))
@@ -103,11 +124,9 @@ far_both : (why : Refusal) (now : Moment) (c : Command) (m p : ℕ) (r : Reply) 
     LiesFar now.core p × LiesFar next.core p × ComesSomewhere now.core p
 far_both why now c m p r next is h some =
     let s : State = now.core in
-    let d : Command = Mutator m (Try p) in
-    let mark : Refusal = Marked (s.cell p) in
-    let left = served_leaves now d (Refused mark) next is h.tried in
+    let left = served_leaves now _ _ next is h.tried in
     let found = marked_last (nat_lt m s.mutators) (is_opened s m) (uses s m p) (is_slow s p) (s.cell p) (s.cell p)
-    (from_cause (refusal now d) (turn_reply now d) mark (turn_is_no_refusal now d mark) (sym h.tried.reply)) in
+    (cause_of now _ _ next (Marked (s.cell p)) h.tried refl) in
     let (len, ds, marks, far) = h.far in (
       h.far,
       still_far (read_of (s.cell p)) (read_of (next.core.cell p)) len ds marks far left.1,

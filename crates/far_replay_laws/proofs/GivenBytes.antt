@@ -4,10 +4,10 @@ use Rattle.std.specs.Prelude.{slice_range}
 use Rattle.std.proofs.lemmas.Bool.{and_parts, cases_eq, eq-eqb, ltb-true}
 use Rattle.far_word.specs.declared.sizes.TheConstants.{CELLS}
 use Rattle.far_word.specs.Bytes.{bytes_of}
-use Rattle.far_core.specs.state.State.{State, put}
+use Rattle.far_events.specs.state.State.{State, put}
 use Rattle.far_core.specs.world.World.{World}
 use Rattle.far_core.specs.world.WorldOf.{world_of}
-use Rattle.far_core.proofs.Put.{put_other, put_same}
+use Rattle.far_events.proofs.Put.{put_other, put_same}
 use Rattle.far_text.specs.Command.{Command, On, Use, Reads, Writes, Views, Mutator}
 use Rattle.far_text.specs.Written.{AllWriteBytes, WritesBytes}
 use Rattle.far_replay.specs.Alone.{Knows}

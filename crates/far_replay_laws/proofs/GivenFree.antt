@@ -2,11 +2,11 @@
 use Rattle.std.proofs.Common.{◌+◌, cond, ◌≡◌, ℕ, ◌<◌, true, false, ◌||◌, List, [], ◌∷◌, inl, inr, arith, ap, sym, refl, ◌∙◌, subst}
 use Rattle.std.specs.Prelude.{◌⊎◌}
 use Rattle.std.proofs.lemmas.Bool.{cases_eq, cond_both, ne_eqb, true≢false}
-use Rattle.far_core.specs.declared.event.Kind.{Kind}
-use Rattle.far_core.specs.declared.event.Kind.TheVariants as kinds
-use Rattle.far_core.specs.state.Law.{Law}
-use Rattle.far_core.specs.state.State.{State}
-use Rattle.far_core.proofs.Put.{put_other, put_same}
+use Rattle.far_events.specs.declared.event.Kind.{Kind}
+use Rattle.far_events.specs.declared.event.Kind.TheVariants as kinds
+use Rattle.far_events.specs.state.Law.{Law}
+use Rattle.far_events.specs.state.State.{State}
+use Rattle.far_events.proofs.Put.{put_other, put_same}
 use Rattle.far_hand.proofs.Finding.{finds_same}
 use Rattle.far_book.specs.book.Releasing.{released}
 use Rattle.far_book.proofs.region.Owns.{own_law}

@@ -9,11 +9,11 @@ use Rattle.far_word.specs.declared.refused.Refused.TheVariants.{NoRoom, NoPointe
 use Rattle.far_word.specs.declared.sizes.TheConstants.{CELLS}
 use Rattle.far_word.specs.Pointer.{read_of}
 use Rattle.far_book.specs.book.FarSide.{kept_len}
-use Rattle.far_core.specs.state.Law.{Law, is_dirty}
-use Rattle.far_core.specs.state.State.{State, put}
+use Rattle.far_events.specs.state.Law.{Law, is_dirty}
+use Rattle.far_events.specs.state.State.{State, put}
 use Rattle.far_core.specs.world.WorldOf.{object_of, world_of}
-use Rattle.far_core.proofs.Cells.{unused}
-use Rattle.far_core.proofs.Put.{put_other, put_same}
+use Rattle.far_events.proofs.Cells.{unused}
+use Rattle.far_events.proofs.Put.{put_other, put_same}
 use Rattle.far_text.specs.Command.{Command, New, Open, On, Use, Reads, Writes, Views, Close, Where, Drop, Try, Epoch, Mutator, Book, Evacuator}
 use Rattle.far_text.specs.Written.{WritesBytes}
 use Rattle.far_reply.specs.Reply.{Reply, Done, Pointer, Data, Lies, EpochRead, Refused}
@@ -250,16 +250,9 @@ world_kept s p all has clean = object_kept s.word (s.stored p) p (read_of (s.cel
 
 -- ---- what the device holds
 holds_key : (c : Command) (r : Reply) (s t : State) (held later : FarBytes) → IsNoStep c → HoldsBy c s t held later → (p len : ℕ) → kept_len (read_of (t.cell p)) ≡ Some len → later p ≡ held p
-holds_key (Mutator m (New len ds)) r s t held later told h p n kept = h p
-holds_key (Mutator m Open) r s t held later told h p n kept = h p
-holds_key (Mutator m (On q how)) r s t held later told h p n kept = h p
-holds_key (Mutator m Close) r s t held later told h p n kept = h p
-holds_key (Mutator m (Where q)) r s t held later told h p n kept = h p
 holds_key (Mutator m (Drop q)) r s t held later told h p n kept = h p n kept
-holds_key (Mutator m (Try q)) r s t held later told h p n kept = h p
-holds_key (Mutator m Epoch) r s t held later told h p n kept = h p
-holds_key (Book inquiry) r s t held later told h p n kept = h p
 holds_key (Evacuator step) r s t held later told h p n kept = absurd told
+holds_key c r s t held later told h p n kept = h p
 
 -- ---- all together
 pub kept_beside : (o : Outside) → GivesNone o → (now : Moment) (c : Command) (r : Reply) (after : Moment) (held later : FarBytes) → IsMoment now → WritesBytes c → IsNoStep c → CommandedBy o now c r after →

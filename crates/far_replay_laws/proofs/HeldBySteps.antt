@@ -8,11 +8,11 @@ use Rattle.far_word.specs.Bytes.{bytes_of}
 use Rattle.far_word.specs.Pointer.{read_of}
 use Rattle.far_word.proofs.ByteLaws.{length-bytes_of}
 use Rattle.far_book.specs.book.FarSide.{kept_len}
-use Rattle.far_core.specs.state.Law.{in_use, is_dirty}
-use Rattle.far_core.specs.state.State.{State}
+use Rattle.far_events.specs.state.Law.{in_use, is_dirty}
+use Rattle.far_events.specs.state.State.{State}
 use Rattle.far_core.specs.world.World.{Object}
 use Rattle.far_core.specs.world.WorldOf.{world_of}
-use Rattle.far_core.proofs.Cells.{unused}
+use Rattle.far_events.proofs.Cells.{unused}
 use Rattle.far_text.specs.Command.{Evacuator, Step, Mark, Evacuate, Abort, Round}
 use Rattle.far_alone.specs.Own.{bytes_in_world}
 use Rattle.far_replay.specs.Answers.{Commanded, IsMoment}

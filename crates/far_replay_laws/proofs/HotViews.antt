@@ -11,39 +11,39 @@ use Rattle.far_word.specs.declared.sizes.TheConstants.{CELLS}
 use Rattle.far_word.specs.Job.{job_of}
 use Rattle.far_word.specs.Mark.{position}
 use Rattle.far_word.specs.Pointer.{read_of, with_mark, without_evac}
-use Rattle.far_core.specs.events.Copied.{copied_job}
-use Rattle.far_core.specs.events.namings.Moves.{after_move}
-use Rattle.far_core.specs.declared.event.Event.{Event}
-use Rattle.far_core.specs.declared.event.Event.TheVariants.{Pin, Soil, Close, Name, Mark, Ask, Get, Clear, Offer, Claim, Finish, Collect}
-use Rattle.far_core.specs.declared.event.Reply.{Reply as Answer}
-use Rattle.far_core.specs.declared.event.Task.{Task}
-use Rattle.far_core.specs.declared.naming.Naming.{Naming}
-use Rattle.far_core.specs.declared.naming.Naming.TheVariants.{Places, Retires, Evicts, Stays, Moves, Fetches}
-use Rattle.far_core.specs.events.Claim.{after_claim, offered_in}
-use Rattle.far_core.specs.events.Clear.{evac_cleared}
-use Rattle.far_core.specs.events.Collect.{collected}
-use Rattle.far_core.specs.events.Finish.{after_finish}
-use Rattle.far_core.specs.events.Legal.{Legal}
-use Rattle.far_core.specs.events.Name.{after_naming}
-use Rattle.far_core.specs.events.Naming.{IsNaming, is_dropped, naming_of, naming_row}
-use Rattle.far_core.specs.events.Offer.{after_offer}
-use Rattle.far_core.specs.events.Quiet.{has_move}
-use Rattle.far_core.specs.events.Soil.{after_soil}
-use Rattle.far_core.specs.events.Step.{after, place_to_view, step_of, with_hold}
-use Rattle.far_core.specs.state.Law.{Law, held_place}
-use Rattle.far_core.specs.state.State.{State, put}
-use Rattle.far_core.proofs.Copied.{moves_quiet}
-use Rattle.far_core.proofs.Bounds.{some_of}
-use Rattle.far_core.proofs.Cells.{held_near, map_mark, read_hot}
+use Rattle.far_events.specs.events.Copied.{copied_job}
+use Rattle.far_events.specs.events.namings.Moves.{after_move}
+use Rattle.far_events.specs.declared.event.Event.{Event}
+use Rattle.far_events.specs.declared.event.Event.TheVariants.{Pin, Soil, Close, Name, Mark, Ask, Get, Clear, Offer, Claim, Finish, Collect}
+use Rattle.far_events.specs.declared.event.Reply.{Reply as Answer}
+use Rattle.far_events.specs.declared.event.Task.{Task}
+use Rattle.far_events.specs.declared.naming.Naming.{Naming}
+use Rattle.far_events.specs.declared.naming.Naming.TheVariants.{Places, Retires, Evicts, Stays, Moves, Fetches}
+use Rattle.far_events.specs.events.Claim.{after_claim, offered_in}
+use Rattle.far_events.specs.events.Clear.{evac_cleared}
+use Rattle.far_events.specs.events.Collect.{collected}
+use Rattle.far_events.specs.events.Finish.{after_finish}
+use Rattle.far_events.specs.events.Legal.{Legal}
+use Rattle.far_events.specs.events.Name.{after_naming}
+use Rattle.far_events.specs.events.Naming.{IsNaming, is_dropped, naming_of, naming_row}
+use Rattle.far_events.specs.events.Offer.{after_offer}
+use Rattle.far_events.specs.events.Quiet.{has_move}
+use Rattle.far_events.specs.events.Soil.{after_soil}
+use Rattle.far_events.specs.events.Step.{after, place_to_view, step_of, with_hold}
+use Rattle.far_events.specs.state.Law.{Law, held_place}
+use Rattle.far_events.specs.state.State.{State, put}
+use Rattle.far_events.proofs.Copied.{moves_quiet}
+use Rattle.far_events.proofs.Bounds.{some_of}
+use Rattle.far_events.proofs.Cells.{held_near, map_mark, read_hot}
 use Rattle.far_core.proofs.Owing.{is_fact, replies_report}
-use Rattle.far_core.proofs.Put.{put_both, put_other, put_same}
+use Rattle.far_events.proofs.Put.{put_both, put_other, put_same}
 use Rattle.far_core.proofs.events.Soil.{reads}
-use Rattle.far_core.proofs.Quieting.{quiet_unheld}
+use Rattle.far_events.proofs.Quieting.{quiet_unheld}
 use Rattle.far_text.specs.Command.{Command}
 use Rattle.far_text.specs.Written.{WritesBytes}
 use Rattle.far_replay.specs.Answers.{Served, IsMoment, Begins, Comes, Stores}
 use Rattle.far_alone.specs.EventRows.{AllPass}
-use Rattle.far_core.specs.events.Ranges.{after_events}
+use Rattle.far_events.specs.events.Ranges.{after_events}
 use Rattle.far_replay_laws.specs.LeftMarks.{ViewedAreHot, is_hot}
 use Rattle.far_replay.specs.Moment.{Moment}
 use Rattle.far_reply.specs.Reply.{Reply}

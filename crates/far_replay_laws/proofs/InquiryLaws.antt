@@ -2,7 +2,7 @@
 use Rattle.std.proofs.Common.{◌≡◌, ◌≢◌, ℕ, zero, suc, ◌+◌, ◌*◌, ◌/◌, ◌<◌, ◌≤◌, Bool, true, false, cond, not, nat_lt, nat_eq, sym, refl, ap, subst, ◌∙◌, arith, Option, Some, None, List, [], ◌∷◌, length, filter, inl, inr}
 use Rattle.std.specs.Prelude.{map, sum, eqb, Contains}
 use Rattle.std.specs.List.{range_with_len, IsDistinct, AllByRecursion}
-use Rattle.std.proofs.lemmas.Bool.{cond_both, cases_eq, ne_eqb, lt-ltb, le-ltb, false≢true, true≢false, not-true}
+use Rattle.std.proofs.lemmas.Bool.{cond_both, cases_eq, ne_eqb, lt-ltb, le-ltb, false≢true, true≢false, not-true, and_parts}
 use Rattle.std.proofs.lemmas.List.FromFn.{length-map-range_with_len, get_or-map-range_with_len}
 use Rattle.far_word.specs.declared.pointer.PtrWord.{PtrWord}
 use Rattle.far_word.specs.declared.pointer.PtrWord.TheVariants as pointer
@@ -12,11 +12,11 @@ use Rattle.far_word.specs.Bytes.{bytes_of}
 use Rattle.far_word.specs.Pointer.{read_of}
 use Rattle.far_log.proofs.Members.{here, there, split, none_in}
 use Rattle.far_core.specs.laws.Observed.{live_bytes}
-use Rattle.far_core.specs.state.Law.{Law, in_use}
-use Rattle.far_core.specs.state.State.{State, addr}
+use Rattle.far_events.specs.state.Law.{Law, in_use}
+use Rattle.far_events.specs.state.State.{State, addr}
 use Rattle.far_core.specs.world.World.{Object, Group, FarSide}
 use Rattle.far_core.specs.world.WorldOf.{world_of, object_of}
-use Rattle.far_core.proofs.Cells.{unused}
+use Rattle.far_events.proofs.Cells.{unused}
 use Rattle.far_core.proofs.Observations.{near_has_one_live}
 use Rattle.far_book.specs.book.Home.{home_of}
 use Rattle.far_book.specs.declared.home.Home.{Home}
@@ -33,7 +33,6 @@ use Rattle.far_reply.specs.declared.reply.LogLine.{LogLine}
 use Rattle.far_reply.specs.Reply.{Reply, Logs, Lies, Audited, Refused}
 use Rattle.far_replay.specs.Turn.{first_cause, unless, home_reply, log_line}
 use Rattle.far_replay.proofs.Lasting.{moment_lasts}
-use Rattle.std.proofs.lemmas.Bool.{and_parts}
 
 -- ---- where
 -- the answer to a mutator of the heap, by whether it uses the pointer

@@ -1,6 +1,6 @@
 -- A state with the law is whole.
-use Rattle.far_core.specs.state.Law.{Law}
-use Rattle.far_core.specs.state.State.{State}
+use Rattle.far_events.specs.state.Law.{Law}
+use Rattle.far_events.specs.state.State.{State}
 use Rattle.far_core.proofs.Observations.{has_one_place, bytes_make_log, names_once}
 use Rattle.far_replay_laws.specs.Headline.{IsWhole}
 

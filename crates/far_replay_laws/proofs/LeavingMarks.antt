@@ -1,5 +1,5 @@
 -- Which marks a dereference leaves, whether it is refused or not.
-use Rattle.std.proofs.Common.{◌≡◌, ◌≢◌, ℕ, ◌/◌, ◌^◌, Bool, true, false, not, nat_lt, nat_eq, refl, sym, ap, subst, ◌∙◌, is_some, Option, Some, None, [], ◌∷◌, ◌++◌, length, bit_or, if◌then◌else◌}
+use Rattle.std.proofs.Common.{◌≡◌, ◌≢◌, ℕ, ◌/◌, ◌^◌, Bool, true, false, not, nat_lt, nat_eq, refl, sym, ap, subst, ◌∙◌, is_some, Option, Some, None, bit_or, if◌then◌else◌}
 use Rattle.std.specs.Prelude.{◌&&◌, ◌||◌}
 use Rattle.std.proofs.lemmas.Bool.{and_parts, cond_both, false≢true, not-false, not-true}
 use Rattle.far_word.specs.declared.mark.Mark.TheVariants.{Hot, Dirty}
@@ -7,17 +7,17 @@ use Rattle.far_word.specs.declared.pointer.Place.{Place}
 use Rattle.far_word.specs.declared.pointer.PtrWord.{PtrWord}
 use Rattle.far_word.specs.declared.pointer.PtrWord.TheVariants.{Free, Near, Far}
 use Rattle.far_word.specs.declared.refused.Refused.{Refused as Refusal}
-use Rattle.far_word.specs.declared.refused.Refused.TheVariants.{NoRoom, Closed, NotHeld, Range, Marked as MarkFound}
+use Rattle.far_word.specs.declared.refused.Refused.TheVariants.{Closed, NotHeld, Range, Marked as MarkFound}
 use Rattle.far_word.specs.declared.sizes.TheConstants.{CELLS}
 use Rattle.far_word.specs.Mark.{position}
 use Rattle.far_word.specs.Pointer.{read_of}
-use Rattle.far_core.specs.events.Step.{after_pin, is_opened, place_to_view}
-use Rattle.far_core.specs.state.Law.{Law, in_use, is_dirty, held_place}
-use Rattle.far_core.specs.state.State.{State}
-use Rattle.far_core.proofs.Cells.{map_mark, read_hot}
-use Rattle.far_core.proofs.Put.{put_other, put_same}
-use Rattle.far_core.proofs.Bounds.{some_of}
-use Rattle.far_text.specs.Command.{Command, On, Reads, Writes, Views, Try, Mutator}
+use Rattle.far_events.specs.events.Step.{after_pin, is_opened, place_to_view}
+use Rattle.far_events.specs.state.Law.{Law, in_use, is_dirty, held_place}
+use Rattle.far_events.specs.state.State.{State}
+use Rattle.far_events.proofs.Cells.{map_mark, read_hot}
+use Rattle.far_events.proofs.Put.{put_other, put_same}
+use Rattle.far_events.proofs.Bounds.{some_of}
+use Rattle.far_text.specs.Command.{Command, On, Use, Writes, Views, Try, Mutator}
 use Rattle.far_replay.specs.Answers.{Commanded, Served, Unbrought, IsMoment}
 use Rattle.far_replay.specs.Commanded.{KeepsFar}
 use Rattle.far_replay.proofs.Outcomes.{by_outcome}
@@ -29,7 +29,7 @@ use Rattle.far_replay_laws.specs.LeftMarks.{GainsDirty, GainsForRoom, GainsHot, 
 use Rattle.far_replay.specs.Moment.{Moment, as_if_stored, with_stored}
 use Rattle.far_alone.specs.Objects.{uses}
 use Rattle.far_reply.specs.Reply.{Reply, Refused}
-use Rattle.far_replay.specs.Turn.{access_causes, causes, first_cause, refusal, unless, turn_effect, refused_effect, turn_reply, reply_to}
+use Rattle.far_replay.specs.Turn.{causes, refusal, unless, turn_effect, refused_effect, turn_reply, reply_to}
 use Rattle.far_alone.proofs.Bringing.{asked_keeps, brought_keeps, slow_unheld}
 use Rattle.far_replay.proofs.Brought.{brought}
 use Rattle.far_replay.proofs.Dereferences.{derefs, sought_lacks, sought_law, sought_may, sought_word}
@@ -38,10 +38,10 @@ use Rattle.far_replay.proofs.Drops.{viewed_is}
 use Rattle.far_replay_laws.proofs.HotViews.{moment_hot}
 use Rattle.far_replay.proofs.Lasting.{moment_lasts, misled_from}
 use Rattle.far_alone.proofs.Leading.{leads_law}
-use Rattle.far_replay_laws.proofs.Refusals.{among, of_far}
+use Rattle.far_replay_laws.proofs.Refusals.{EachFirst, among, of_far}
 use Rattle.far_alone.proofs.Soiling.{soiled_reads}
 use Rattle.far_replay.proofs.TakingView.{asked_word}
-use Rattle.far_replay.proofs.Turns.{may_reach, tried}
+use Rattle.far_replay.proofs.Ways.{may_reach, tried}
 use Rattle.far_alone.proofs.Views.{anew_is, fast_dereference, fast_seen, Already, Anew, Seen, pin_read, slow_parts}
 use Rattle.far_replay_laws.proofs.Misleading.{as_misled}
 use Rattle.far_core.specs.world.WorldOf.{world_of}
@@ -184,33 +184,11 @@ module _ (s : State) (m p : ℕ) (law : Law s) (opened : is_opened s m ≡ true)
 
 -- ---- each command
 -- what a refusal leaves, by its cause
-access_refused : (now : Moment) (m p from count : ℕ) (why : Refusal) (after : Refusal → Moment) → Law now.core → (after Range ≡ now) → (after Closed ≡ now) → (after NotHeld ≡ now) →
-    ((after NoRoom).core ≡ sought now.core m p) → first_cause (access_causes now m p from count ++ (has_no_room now.core m p, NoRoom) ∷ []) ≡ Some why →
-    RefusedLeaves now.core p why (after why).core
-access_refused now m p from count why after law range closed unused full e =
-    let cells : (x : Moment) → x ≡ now → x.core.cell ≡ now.core.cell = λ x e. ap (λ (y : Moment). y.core.cell) e in
-    among (λ x. RefusedLeaves now.core p x (after x).core) (access_causes now m p from count ++ (has_no_room now.core m p, NoRoom) ∷ []) why (
-      (λ _. cells (after Range) range),
-      λ _. (
-        (λ _. cells (after Closed) closed),
-        λ shut. (
-          (λ _. cells (after NotHeld) unused),
-          λ other. (
-            (λ _. cells (after Range) range),
-            λ _. (
-              (λ lacks. subst (λ (t : State). GainsForRoom (read_of (now.core.cell p)) (read_of (t.cell p)) × OthersStay now.core t p) (sym full)
-                  (room_gains now.core m p law (not-false (is_opened now.core m) shut) (not-false (uses now.core m p) other) lacks)),
-              λ _. tt,
-            ),
-          ),
-        ),
-      ),
-    ) e
-
-view_refused : (now : Moment) (m p : ℕ) (why : Refusal) → Law now.core → refusal now (Mutator m (On p Views)) ≡ Some why →
-    RefusedLeaves now.core p why (refused_effect now (Mutator m (On p Views)) why).core
-view_refused now m p why law e = among (λ x. RefusedLeaves now.core p x (refused_effect now (Mutator m (On p Views)) x).core) (causes now (Mutator m (On p Views))) why
-    ((λ _. refl), λ _. ((λ _. refl), λ shut. ((λ _. refl), λ other. (room_gains now.core m p law (not-false (is_opened now.core m) shut) (not-false (uses now.core m p) other), λ _. tt)))) e
+use_refused : (now : Moment) (m p : ℕ) (how : Use) → Law now.core → EachFirst (λ why. RefusedLeaves now.core p why (refused_effect now (Mutator m (On p how)) why).core) (causes now (Mutator m (On p how)))
+use_refused now m p Views law =
+    ((λ _. refl), λ _. ((λ _. refl), λ shut. ((λ _. refl), λ other. (room_gains now.core m p law (not-false (is_opened now.core m) shut) (not-false (uses now.core m p) other), λ _. tt))))
+use_refused now m p how law =
+    ((λ _. refl), λ _. ((λ _. refl), λ shut. ((λ _. refl), λ other. ((λ _. refl), λ _. (room_gains now.core m p law (not-false (is_opened now.core m) shut) (not-false (uses now.core m p) other), λ _. tt)))))
 
 try_refused : (now : Moment) (m p : ℕ) (why : Refusal) → Law now.core → refusal now (Mutator m (Try p)) ≡ Some why →
     TryLeaves now.core p why (refused_effect now (Mutator m (Try p)) why).core
@@ -237,14 +215,11 @@ leaves now (Mutator m (On p (Writes from bytes))) None is e =
     let led = derefs now.core m p law h.0 h.1 h.2 in
     leaves_written now.core t (with_data t p from bytes) p law (left now.core m p law h.0 h.1 h.2) (moment_hot now is p)
     (soiled_reads t led.law m p led.view.len led.view.place led.view.holds) (λ q ne. put_other t.cell p (bit_or (t.cell p) (2 ^ position Dirty)) q ne)
-leaves now (Mutator m (On p (Writes from bytes))) (Some why) is e =
-    access_refused now m p from (length bytes) why (refused_effect now (Mutator m (On p (Writes from bytes)))) (moment_lasts now is).law refl refl refl refl e
 leaves now (Mutator m (On p how)) None is e =
     let h = may_reach now m p how e in
     leaves_hot now.core (dereferenced now.core m p) p (left now.core m p (moment_lasts now is).law h.0 h.1 h.2) (moment_hot now is p)
-leaves now (Mutator m (On p (Reads from len))) (Some why) is e =
-    access_refused now m p from len why (refused_effect now (Mutator m (On p (Reads from len)))) (moment_lasts now is).law refl refl refl refl e
-leaves now (Mutator m (On p Views)) (Some why) is e = view_refused now m p why (moment_lasts now is).law e
+leaves now (Mutator m (On p how)) (Some why) is e =
+    among (λ why. RefusedLeaves now.core p why (refused_effect now (Mutator m (On p how)) why).core) (causes now (Mutator m (On p how))) why (use_refused now m p how (moment_lasts now is).law) e
 leaves now (Mutator m (Try p)) None is e =
     let h = tried (nat_lt m now.core.mutators) (is_opened now.core m) (uses now.core m p) (is_slow now.core p) Range Closed NotHeld (MarkFound (now.core.cell p)) e in
     leaves_hot now.core (with_view now.core p) p (fast_left now.core m p (moment_lasts now is).law h.1 h.2 h.3) (moment_hot now is p)
@@ -262,7 +237,7 @@ far_leaves s t p why h gains = of_far (λ x. RefusedLeaves s p x t) why h gains 
 
 tried_leaves : (now : Moment) (c : Command) (why : Refusal) (m p : ℕ) (r : Reply) (next : Moment) → IsMoment now → Unbrought why now c m p r next → RefusedLeaves now.core p why next.core
 tried_leaves now c why m p r next is h =
-    let x = served_leaves now (Mutator m (Try p)) (Refused (MarkFound (now.core.cell p))) next is h.tried in
+    let x = served_leaves now _ _ next is h.tried in
     far_leaves now.core next.core p why h.cause (x.1, x.2)
 
 -- and one that is given other words leaves what it would if they were stored

@@ -1,5 +1,5 @@
 -- A command that is no step of the evacuator leaves what isn't of its own object or scope.
-use Rattle.std.proofs.Common.{◌≡◌, ℕ, ◌/◌, ◌^◌, true, false, not, refl, sym, ap, subst, ◌∙◌, is_some, Option, Some, None, List, length, ◌==◌, ◌++◌, bit_or, [], ◌∷◌}
+use Rattle.std.proofs.Common.{◌≡◌, ℕ, ◌/◌, ◌^◌, true, false, not, refl, sym, ap, subst, ◌∙◌, is_some, Option, Some, None, List, ◌==◌, bit_or}
 use Rattle.std.proofs.lemmas.Bool.{cond-false, cond_both, ne_eqb}
 use Rattle.far_word.specs.declared.mark.Mark.{Mark}
 use Rattle.far_word.specs.declared.mark.Mark.TheVariants.{Hot, Moved, Dropped, Dirty}
@@ -7,45 +7,44 @@ use Rattle.far_word.specs.declared.pointer.Place.{Place}
 use Rattle.far_word.specs.declared.pointer.PtrWord.{PtrWord}
 use Rattle.far_word.specs.declared.pointer.PtrWord.TheVariants.{Near, Far}
 use Rattle.far_word.specs.declared.refused.Refused.{Refused as Refusal}
-use Rattle.far_word.specs.declared.refused.Refused.TheVariants.{NoRoom, Closed, NotHeld, Range, Marked}
+use Rattle.far_word.specs.declared.refused.Refused.TheVariants.{NoRoom, Marked}
 use Rattle.far_word.specs.declared.sizes.TheConstants.{CELLS}
 use Rattle.far_word.specs.Mark.{position}
 use Rattle.far_word.specs.Pointer.{IsPtr, read_of}
 use Rattle.far_word.specs.Sizes.{size_of}
 use Rattle.far_word.proofs.PointerLaws.{read_back}
-use Rattle.far_core.specs.events.Copied.{copied_job}
-use Rattle.far_core.specs.events.namings.Moves.{after_move}
-use Rattle.far_core.specs.declared.event.Event.TheVariants.{Ask, Name}
-use Rattle.far_core.specs.declared.naming.Naming.{Naming}
-use Rattle.far_core.specs.declared.naming.Naming.TheVariants.{Places, Moves}
-use Rattle.far_core.specs.events.Copies.{data_at}
-use Rattle.far_core.specs.events.Name.{after_naming}
-use Rattle.far_core.specs.events.Naming.{naming_of, naming_row, no_marks, unmarked}
-use Rattle.far_core.specs.events.Step.{after, after_close, after_pin, place_to_view}
-use Rattle.far_core.specs.state.Law.{Law}
+use Rattle.far_events.specs.events.Copied.{copied_job}
+use Rattle.far_events.specs.events.namings.Moves.{after_move}
+use Rattle.far_events.specs.declared.event.Event.TheVariants.{Ask, Name}
+use Rattle.far_events.specs.declared.naming.Naming.{Naming}
+use Rattle.far_events.specs.declared.naming.Naming.TheVariants.{Places, Moves}
+use Rattle.far_events.specs.events.Copies.{data_at}
+use Rattle.far_events.specs.events.Name.{after_naming}
+use Rattle.far_events.specs.events.Naming.{naming_of, naming_row, no_marks, unmarked}
+use Rattle.far_events.specs.events.Step.{after, after_close, after_pin, place_to_view}
+use Rattle.far_events.specs.state.Law.{Law}
 use Rattle.far_core.specs.state.Room.{room}
-use Rattle.far_core.specs.state.State.{State}
-use Rattle.far_core.proofs.Bounds.{some_of}
-use Rattle.far_core.proofs.Put.{put_other, put_same}
+use Rattle.far_events.specs.state.State.{State}
+use Rattle.far_events.proofs.Bounds.{some_of}
+use Rattle.far_events.proofs.Put.{put_other, put_same}
 use Rattle.far_book.specs.book.Dealing.{has_evac}
 use Rattle.far_book.specs.book.Effects.{fetched_of, moved, moved_of, near_word, placed, retired, stayed, stayed_of, with_blank_span, with_written_span}
 use Rattle.far_book.proofs.region.Places.{named_is}
 use Rattle.far_evac.proofs.StepsAside.{layout}
 use Rattle.far_replay.specs.Answers.{Commanded, Served, IsMoment}
 use Rattle.far_replay.proofs.Outcomes.{by_outcome}
-use Rattle.far_alone.specs.Dereference.{come, come_of, comes_to, dereferenced, has_no_room, sought, sought_of}
+use Rattle.far_alone.specs.Dereference.{come, come_of, comes_to, dereferenced, sought, sought_of}
 use Rattle.far_alone.specs.Effects.{is_slow, with_data, with_epoch, with_object, with_scope, with_view, without_object}
 use Rattle.far_replay.specs.Moment.{Moment, with_core, as_if_stored, with_stored}
 use Rattle.far_alone.specs.Objects.{lowest_cell}
 use Rattle.far_reply.specs.Reply.{Reply, Pointer, Refused}
-use Rattle.far_replay.specs.Turn.{access_causes, causes, first_cause, pointer_reply, refusal, refused_effect, reply_to, turn_effect, turn_reply, unless, with_new}
+use Rattle.far_replay.specs.Turn.{pointer_reply, refusal, refused_effect, reply_to, turn_effect, turn_reply, unless, with_new}
 use Rattle.far_alone.proofs.AloneStates.{lowest_free}
 use Rattle.far_replay.proofs.Lasting.{moment_lasts, misled_from}
-use Rattle.far_replay.proofs.Turns.{new_tests}
-use Rattle.far_text.specs.Command.{Command, New, Open, On, Reads, Writes, Views, Close, Where, Drop, Try, Epoch, Mutator, Book, Evacuator}
+use Rattle.far_replay.proofs.Ways.{new_tests}
+use Rattle.far_text.specs.Command.{Command, New, Open, On, Writes, Close, Where, Drop, Try, Epoch, Mutator, Book, Evacuator}
 use Rattle.far_replay_laws.specs.LeftBeside.{AllButObject, AllButScope, LeavesBeside, NewLeaves}
 use Rattle.far_replay_laws.proofs.AloneNew.{is_length, is_structure}
-use Rattle.far_replay_laws.proofs.Refusals.{among}
 use Rattle.far_replay_laws.proofs.HotViews.{held_other}
 use Rattle.far_replay_laws.proofs.Misleading.{as_misled}
 
@@ -193,33 +192,6 @@ new_leaves now m len ds law none =
     (subst (λ (y : Option Place). NewLeaves now len ds (Pointer low.0) (with_core now (with_new s m len ds (Some low.0) y))) (sym at.1)
     (new_beside s m low.0 len ds at.0, (at.0, new_named s m low.0 len ds at.0 (lowest_free s m low.0 low.1) lies)))
 
--- ---- refusals of what is read, written and viewed
-access_beside : (now : Moment) (m p from count : ℕ) (why : Refusal) (turned : Refusal → Moment) → (turned Range ≡ now) → (turned Closed ≡ now) → (turned NotHeld ≡ now) →
-    ((turned NoRoom).core ≡ sought now.core m p) → first_cause (access_causes now m p from count ++ (has_no_room now.core m p, NoRoom) ∷ []) ≡ Some why → AllButObject now.core (turned why).core p
-access_beside now m p from count why turned range closed unused full e =
-    let stays : (x : Moment) → x ≡ now → AllButObject now.core x.core p = λ x is. subst (λ (y : Moment). AllButObject now.core y.core p) (sym is) (same now.core p) in
-    among (λ x. AllButObject now.core (turned x).core p) (access_causes now m p from count ++ (has_no_room now.core m p, NoRoom) ∷ []) why (
-      (λ _. stays (turned Range) range),
-      λ _. (
-        (λ _. stays (turned Closed) closed),
-        λ _. (
-          (λ _. stays (turned NotHeld) unused),
-          λ _. (
-            (λ _. stays (turned Range) range),
-            λ _. ((λ _. subst (λ (t : State). AllButObject now.core t p) (sym full) (sought_beside now.core m p)), λ _. tt),
-          ),
-        ),
-      ),
-    ) e
-
-view_refused : (now : Moment) (m p : ℕ) (why : Refusal) → refusal now (Mutator m (On p Views)) ≡ Some why → AllButObject now.core (refused_effect now (Mutator m (On p Views)) why).core p
-view_refused now m p why e = among (λ x. AllButObject now.core (refused_effect now (Mutator m (On p Views)) x).core p) (causes now (Mutator m (On p Views))) why
-    ((λ _. same now.core p), λ _. ((λ _. same now.core p), λ _. ((λ _. same now.core p), λ _. ((λ _. sought_beside now.core m p), λ _. tt)))) e
-
-try_refused : (now : Moment) (m p : ℕ) (why : Refusal) → refusal now (Mutator m (Try p)) ≡ Some why → AllButObject now.core (refused_effect now (Mutator m (Try p)) why).core p
-try_refused now m p why e = among (λ x. AllButObject now.core (refused_effect now (Mutator m (Try p)) x).core p) (causes now (Mutator m (Try p))) why
-    ((λ _. same now.core p), λ _. ((λ _. same now.core p), λ _. ((λ _. same now.core p), λ _. ((λ _. view_beside now.core p), λ _. tt)))) e
-
 -- ---- each command
 leaves : (now : Moment) (c : Command) (o : Option Refusal) → Law now.core → refusal now c ≡ o → LeavesBeside now c (unless o Refused (turn_reply now c)) (unless o (refused_effect now c) (turn_effect now c))
 leaves now (Mutator m (New len ds)) None law e = new_leaves now m len ds law e
@@ -227,19 +199,18 @@ leaves now (Mutator m (New len ds)) (Some why) law e = refl
 leaves now (Mutator m Open) None law e = scope_beside now.core m
 leaves now (Mutator m Open) (Some why) law e = shut now.core m
 leaves now (Mutator m (On p (Writes from bytes))) None law e = data_beside now.core (dereferenced now.core m p) p from bytes (dereferenced_beside now.core m p)
-leaves now (Mutator m (On p (Writes from bytes))) (Some why) law e =
-    access_beside now m p from (length bytes) why (refused_effect now (Mutator m (On p (Writes from bytes)))) refl refl refl refl e
 leaves now (Mutator m (On p how)) None law e = dereferenced_beside now.core m p
-leaves now (Mutator m (On p (Reads from len))) (Some why) law e = access_beside now m p from len why (refused_effect now (Mutator m (On p (Reads from len)))) refl refl refl refl e
+leaves now (Mutator m (On p how)) (Some NoRoom) law e = sought_beside now.core m p
+leaves now (Mutator m (On p how)) (Some why) law e = same now.core p
 leaves now (Mutator m Close) None law e = close_beside now.core m
 leaves now (Mutator m Close) (Some why) law e = shut now.core m
 leaves now (Mutator m (Where p)) None law e = refl
 leaves now (Mutator m (Where p)) (Some why) law e = refl
 leaves now (Mutator m (Drop p)) None law e = without_beside now.core m p
 leaves now (Mutator m (Drop p)) (Some why) law e = same now.core p
-leaves now (Mutator m (On p Views)) (Some why) law e = view_refused now m p why e
 leaves now (Mutator m (Try p)) None law e = view_beside now.core p
-leaves now (Mutator m (Try p)) (Some why) law e = try_refused now m p why e
+leaves now (Mutator m (Try p)) (Some (Marked word)) law e = view_beside now.core p
+leaves now (Mutator m (Try p)) (Some why) law e = same now.core p
 leaves now (Mutator m Epoch) None law e = epoch_beside now.core m
 leaves now (Mutator m Epoch) (Some why) law e = shut now.core m
 leaves now (Book inquiry) None law e = refl
@@ -257,7 +228,7 @@ beside_as_if s t p row x = record { cells = x.cells; used = x.used; views = x.vi
 pub commands_beside : (now : Moment) (c : Command) (r : Reply) (next : Moment) → IsMoment now → Commanded now c r next → LeavesBeside now c r next
 commands_beside now c r next is h = by_outcome now r next (λ d. LeavesBeside now d r next)
     (λ d h. served_beside now d r next is h)
-    (λ why m p how h. served_beside now (Mutator m (Try p)) (Refused (Marked (now.core.cell p))) next is h.tried)
+    (λ why m p how h. served_beside now _ _ next is h.tried)
     (λ why objects count h. tt)
     (λ why turns objects policy most count h. tt)
     (λ row m p d asks h. as_misled row now r next m p LeavesBeside (λ from bytes. beside_as_if now.core next.core p row) (λ from len bytes. beside_as_if now.core next.core p row) (beside_as_if now.core next.core p row)

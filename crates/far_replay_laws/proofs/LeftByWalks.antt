@@ -7,13 +7,13 @@ use Rattle.far_word.specs.Pointer.{read_of}
 use Rattle.far_word.specs.Sizes.{size_of}
 use Rattle.far_word.proofs.PointerLaws.{read_says}
 use Rattle.far_log.proofs.Members.{here, there}
-use Rattle.far_core.specs.state.Law.{Law}
+use Rattle.far_events.specs.state.Law.{Law}
 use Rattle.far_core.specs.state.Room.{room}
-use Rattle.far_core.specs.state.State.{State, put}
+use Rattle.far_events.specs.state.State.{State, put}
 use Rattle.far_core.specs.world.World.{FarSide, Group, Object, World}
 use Rattle.far_core.specs.world.Steps.{with_home}
 use Rattle.far_core.specs.world.WorldOf.{object_of, world_of}
-use Rattle.far_core.proofs.Put.{put_other}
+use Rattle.far_events.proofs.Put.{put_other}
 use Rattle.far_book.specs.book.Effects.{evicted, moved, with_free_cell}
 use Rattle.far_book.specs.book.Releasing.{released}
 use Rattle.far_book.proofs.region.Owns.{own_law}

@@ -1,6 +1,6 @@
 -- `audit` counts the census, which lists each object and each log once.
 use Rattle.far_book.proofs.region.Owns.{own_law}
-use Rattle.far_core.specs.state.Law.{Law}
+use Rattle.far_events.specs.state.Law.{Law}
 use Rattle.far_evac.specs.Census.{homes_of, logs_of}
 use Rattle.far_evac.proofs.Listing.{census_lists}
 use Rattle.far_text.specs.Command.{Audit, Book, Command}

@@ -1,7 +1,7 @@
 -- A command that is given other words is served in a moment in which these are stored: what that says of the moments before and after it.
 use Rattle.std.proofs.Common.{◌≡◌, ◌≢◌, ℕ, ◌+◌, true, sym, subst, refl, Option, Some, None, List}
 use Rattle.far_word.specs.declared.refused.Refused.{Refused as Refusal}
-use Rattle.far_core.specs.events.Step.{is_opened}
+use Rattle.far_events.specs.events.Step.{is_opened}
 use Rattle.far_text.specs.Command.{Command, On, Use, Reads, Writes, Views, Mutator}
 use Rattle.far_replay.specs.Commanded.{AsksFor, Misled, MisledBy}
 use Rattle.far_alone.specs.Dereference.{dereferenced}
@@ -9,7 +9,7 @@ use Rattle.far_replay.specs.Moment.{Moment, as_if_stored}
 use Rattle.far_alone.specs.Objects.{data_of, uses}
 use Rattle.far_reply.specs.Reply.{Reply, Done, Data, Refused}
 use Rattle.far_replay.specs.Turn.{refusal, turn_reply, unless}
-use Rattle.far_replay.proofs.Turns.{may_reach}
+use Rattle.far_replay.proofs.Ways.{may_reach}
 use Rattle.std.specs.Prelude.{slice_range}
 
 -- ---- it is a use of the object

@@ -3,34 +3,33 @@ use Rattle.std.proofs.Common.{◌≡◌, ◌≢◌, ℕ, nat_eq, ◌+◌, ◌-�
 use Rattle.std.specs.Prelude.{map, replicate, nat_le, ◌/◌, ◌^◌, ◌⊎◌, ◌↔◌, bit_or, All, Contains}
 use Rattle.std.specs.Bool.{MatchBool}
 use Rattle.std.specs.List.{flat_map, range_with_len}
-use Rattle.std.proofs.lemmas.Bool.{lt-leb, eqb-true, eqb-false, false≢true}
+use Rattle.std.proofs.lemmas.Bool.{lt-leb, eqb-true, eqb-false, false≢true, and_parts}
 use Rattle.std.proofs.lemmas.Bool.Decides.{nat_tests}
 use Rattle.far_word.specs.declared.refused.Refused.{Refused as Refusal}
 use Rattle.far_word.specs.declared.refused.Refused.TheVariants.{Range, Length, NoPointer, NoRoom, Marked, Shape, StillOpen, Syntax}
 use Rattle.far_word.specs.declared.sizes.TheConstants.{CELLS, LONGEST}
 use Rattle.far_word.specs.Sizes.{size_of}
 use Rattle.far_log.proofs.Members.{split, none_in, All-from}
-use Rattle.far_core.specs.state.Law.{Law}
+use Rattle.far_events.specs.state.Law.{Law}
 use Rattle.far_word.specs.declared.pointer.Place.{Place}
 use Rattle.far_core.specs.state.Room.{room}
-use Rattle.far_core.specs.state.Shape.{is_shape}
-use Rattle.far_core.specs.state.State.{State, put}
+use Rattle.far_events.specs.state.Shape.{is_shape}
+use Rattle.far_events.specs.state.State.{State, put}
 use Rattle.far_core.specs.world.World.{Object, Group}
-use Rattle.far_core.specs.world.WorldOf.{world_of}
-use Rattle.far_core.proofs.Bounds.{some_of}
-use Rattle.far_core.proofs.Guards.{none_from}
+use Rattle.far_core.specs.world.WorldOf.{world_of, object_of}
+use Rattle.far_events.proofs.Bounds.{some_of}
+use Rattle.far_events.proofs.Guards.{none_from}
 use Rattle.far_core.proofs.Observations.{bytes_make_log}
-use Rattle.std.proofs.lemmas.Bool.{and_parts}
 use Rattle.far_word.specs.declared.mark.Mark.TheVariants.{Hot, Moved}
 use Rattle.far_word.specs.Mark.{position, marks_with}
-use Rattle.far_core.specs.events.Step.{after_pin, is_opened}
-use Rattle.far_core.proofs.Cells.{map_mark, object_of-mark}
+use Rattle.far_events.specs.events.Step.{after_pin, is_opened}
+use Rattle.far_events.proofs.Cells.{map_mark}
+use Rattle.far_core.proofs.Cells.{object_of-mark}
 use Rattle.far_core.proofs.Marking.{read_mark}
-use Rattle.far_core.specs.world.WorldOf.{object_of}
 use mathlib.Core.Path.{fun_ext}
 use Rattle.far_alone.specs.Dereference.{asked_for, comes_to, sought, sought_of}
 use Rattle.far_core.proofs.KeepOwner.{hot_read}
-use Rattle.far_core.proofs.Put.{put_both, put_other, put_same}
+use Rattle.far_events.proofs.Put.{put_both, put_other, put_same}
 use Rattle.far_book.proofs.region.Calls.{put_put}
 use Rattle.far_alone.specs.Effects.{is_slow, with_view}
 use Rattle.far_alone.proofs.AloneRuns.{quiet_run, quiet_view}
@@ -39,13 +38,13 @@ use Rattle.far_replay.specs.Alone.{Alone, KnowsBy}
 use Rattle.far_alone.specs.Own.{Own}
 use Rattle.far_replay.specs.Answers.{Answered, AnsweredBy, Commanded, Outside, Serves, Served, IsMoment, IsOutput, shape_of, first_moment, flaws, gives_some, is_true, lie_of, ByDevice, FlawedAtMost, opened}
 use Rattle.far_replay.specs.Commanded.{KeepsFar}
-use Rattle.far_text.specs.Command.{Command, Trace, Nothing, Heap, New, Open, On, Use, Writes, Close, Where, Drop, Try, Epoch, Logs, Mutator, Book, Evacuator, Step, Wait, Device as SaidDevice}
+use Rattle.far_text.specs.Command.{Command, Trace, Nothing, Heap, New, On, Use, Writes, Try, Logs, Mutator, Book, Evacuator, Step, Wait, Device as SaidDevice}
 use Rattle.far_text.specs.Grammar.{trace_of}
 use Rattle.far_replay_laws.specs.Headline.{EachTextIsAnswered, HeapsBeginLawful, IsAmple, IsWhole, IsSaidBy, TellsAll, TellsLog}
 use Rattle.far_replay_laws.specs.FromOutside.{NoneLacks}
 use Rattle.far_replay_laws.proofs.Failures.{served_silent}
 use Rattle.far_text.specs.Written.{AllWriteBytes}
-use Rattle.far_core.specs.events.Ranges.{after_events}
+use Rattle.far_events.specs.events.Ranges.{after_events}
 use Rattle.far_alone.specs.EventRows.{AllSucceed}
 use Rattle.far_reply.specs.declared.reply.LogLine.{LogLine}
 use Rattle.far_reply.specs.Reply.{Reply, Pointer, Refused, reply_text}
@@ -64,11 +63,11 @@ use Rattle.far_replay.proofs.Outcomes.{by_outcome}
 use Rattle.far_replay_laws.proofs.Kept.{whole}
 use Rattle.far_replay.proofs.Lasting.{first_lawful, command_carried, moment_lasts, each_is_moment}
 use Rattle.far_alone.proofs.Lowest.{lowest_cell_is, no_cell_is}
-use Rattle.far_replay_laws.proofs.Refusals.{not_halted, turn_is_no_refusal, from_cause, of_far}
+use Rattle.far_replay_laws.proofs.Refusals.{cause_of, not_halted, turn_is_no_refusal, from_cause, of_far}
 use Rattle.far_replay.proofs.RoundLeads.{cell_same, same_clear, stays_same, step_stays}
 use Rattle.far_replay.proofs.WithCore.{same_order}
 use Rattle.far_alone.proofs.Spliced.{length-with_range, with_range_before, with_range_inside, with_range_after}
-use Rattle.far_replay.proofs.Turns.{lacks_place, marked_last, new_tests}
+use Rattle.far_replay.proofs.Ways.{lacks_place, marked_last, new_tests}
 use Rattle.far_alone.proofs.Views.{view_is, view_law, slow_view}
 use Rattle.far_device.specs.declared.liar.Lie.{Lie}
 
@@ -103,9 +102,6 @@ pub each_answered : EachTextIsAnswered
 each_answered text = read_answered (trace_of text)
 
 -- ---- what a refused command leaves
-cause_of : (now : Moment) (c : Command) (r : Reply) (next : Moment) (why : Refusal) → Served now c r next → r ≡ Refused why → refusal now c ≡ Some why
-cause_of now c r next why h e = from_cause (refusal now c) (turn_reply now c) why (turn_is_no_refusal now c why) (sym h.reply ∙ e)
-
 refused_moment : (now : Moment) (c : Command) (r : Reply) (next : Moment) (why : Refusal) → Served now c r next → r ≡ Refused why → next ≡ refused_effect now c why
 refused_moment now c r next why h e = h.moment ∙ ap (λ o. unless o (refused_effect now c) (turn_effect now c)) (cause_of now c r next why h e)
 
@@ -308,14 +304,8 @@ past s m k e h = lt-leb (suc k) s.mutators (omega (arith, e, h))
 
 refuses_unknown : (now : Moment) (c : Command) (m : ℕ) → IsSaidBy m c → now.core.mutators ≤ m → reply_to now c ≡ Refused Range
 refuses_unknown now (Mutator k (New len ds)) m e h = first_holds now (Mutator k (New len ds)) (not (nat_lt k now.core.mutators && nat_lt ds 256)) _ refl (ap (λ b. not (b && nat_lt ds 256)) (past now.core m k e h))
-refuses_unknown now (Mutator k Open) m e h = first_holds now (Mutator k Open) (not (nat_lt k now.core.mutators)) _ refl (ap not (past now.core m k e h))
 refuses_unknown now (Mutator k (On p (Writes from bytes))) m e h = first_holds now (Mutator k (On p (Writes from bytes))) (not (nat_lt k now.core.mutators)) _ refl (ap not (past now.core m k e h))
-refuses_unknown now (Mutator k (On p how)) m e h = first_holds now (Mutator k (On p how)) (not (nat_lt k now.core.mutators)) _ refl (ap not (past now.core m k e h))
-refuses_unknown now (Mutator k Close) m e h = first_holds now (Mutator k Close) (not (nat_lt k now.core.mutators)) _ refl (ap not (past now.core m k e h))
-refuses_unknown now (Mutator k (Where p)) m e h = first_holds now (Mutator k (Where p)) (not (nat_lt k now.core.mutators)) _ refl (ap not (past now.core m k e h))
-refuses_unknown now (Mutator k (Drop p)) m e h = first_holds now (Mutator k (Drop p)) (not (nat_lt k now.core.mutators)) _ refl (ap not (past now.core m k e h))
-refuses_unknown now (Mutator k (Try p)) m e h = first_holds now (Mutator k (Try p)) (not (nat_lt k now.core.mutators)) _ refl (ap not (past now.core m k e h))
-refuses_unknown now (Mutator k Epoch) m e h = first_holds now (Mutator k Epoch) (not (nat_lt k now.core.mutators)) _ refl (ap not (past now.core m k e h))
+refuses_unknown now (Mutator k request) m e h = first_holds now (Mutator k request) (not (nat_lt k now.core.mutators)) _ refl (ap not (past now.core m k e h))
 refuses_unknown now _ m e h = absurd e
 
 unknown_allowed : (now : Moment) (c : Command) (m : ℕ) → IsSaidBy m c → now.core.mutators ≤ m → refusal now c ≢ None

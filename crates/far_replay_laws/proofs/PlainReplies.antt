@@ -18,8 +18,8 @@ use Rattle.far_word.specs.declared.sizes.TheConstants.{CELLS, LOG_BYTES}
 use Rattle.far_word.specs.Pointer.{IsPtr, read_of}
 use Rattle.far_word.proofs.PointerLaws.{read_says}
 use Rattle.far_core.specs.laws.Observed.{live_bytes}
-use Rattle.far_core.specs.state.Law.{Law}
-use Rattle.far_core.specs.state.State.{State}
+use Rattle.far_events.specs.state.Law.{Law}
+use Rattle.far_events.specs.state.State.{State}
 use Rattle.far_core.proofs.Observations.{bytes_make_log}
 use Rattle.far_book.specs.book.Home.{home_of}
 use Rattle.far_evac.specs.MomentLaw.{MomentLaw}
@@ -44,7 +44,7 @@ use Rattle.far_replay.proofs.Lasting.{Lasts, still_lasts, misled_before}
 use Rattle.far_replay_laws.proofs.PlainRounds.{filter_shorter, plain_step, plain_step_causes, plain_stop}
 use Rattle.far_replay_laws.proofs.Stops.{left_some, stood_so}
 use Rattle.far_replay_laws.proofs.Refusals.{EachCause, each_first, among, of_far}
-use Rattle.far_replay.proofs.Turns.{new_tests}
+use Rattle.far_replay.proofs.Ways.{new_tests}
 
 -- a pointer is a number of a cell
 plain_pointer : (s : State) (m : ℕ) (o : Option ℕ) → Law s → m < s.mutators → lowest_cell s m ≡ o → IsToldInFull (pointer_reply o)

@@ -8,7 +8,7 @@ use Rattle.std.proofs.lemmas.List.Sums.{length-filter, count_by-le-length}
 use Rattle.hex.specs.Hex.{IsBytes}
 use Rattle.far_word.specs.declared.refused.Refused.TheVariants.{Phase as WrongPhase}
 use Rattle.far_word.specs.Pointer.{read_of}
-use Rattle.far_core.specs.state.Law.{Law}
+use Rattle.far_events.specs.state.Law.{Law}
 use Rattle.far_book.proofs.region.Owns.{own_law}
 use Rattle.far_book.specs.book.Dealing.{has_evac}
 use Rattle.far_evac.specs.declared.answers.Polled.{Polled}

@@ -4,10 +4,10 @@ use Rattle.std.proofs.lemmas.Bool.{and_parts, cond_both, not-false, true≢false
 use Rattle.std.specs.List.{find, range_with_len, AllByRecursion as Each}
 use Rattle.far_word.specs.declared.refused.Refused.{Refused as Refusal}
 use Rattle.far_word.specs.declared.sizes.TheConstants.{CELLS}
-use Rattle.far_core.proofs.Cells.{unused}
+use Rattle.far_events.proofs.Cells.{unused}
 use Rattle.far_core.proofs.KeepOwner.{nonzero}
-use Rattle.far_core.specs.state.Law.{Law}
-use Rattle.far_core.specs.state.State.{State}
+use Rattle.far_events.specs.state.Law.{Law}
+use Rattle.far_events.specs.state.State.{State}
 use Rattle.far_word.specs.Pointer.{read_of}
 use Rattle.far_word.specs.declared.pointer.PtrWord.TheVariants.{Free, Near, Far}
 use Rattle.far_evac.specs.declared.answers.Progress.{Progress}
@@ -125,9 +125,13 @@ pub from_cause : (o : Option Refusal) (r : Reply) (why : Refusal) → (r ≢ Ref
 from_cause None r why none e = absurd (none e)
 from_cause (Some cause) r why none e = let same : cause ≡ why = cc in ap Some same
 
+-- why a command that was served is refused
+pub cause_of : (now : Moment) (c : Command) (r : Reply) (next : Moment) (why : Refusal) → Served now c r next → r ≡ Refused why → refusal now c ≡ Some why
+cause_of now c r next why h e = from_cause (refusal now c) (turn_reply now c) why (turn_is_no_refusal now c why) (sym h.reply ∙ e)
+
 served_near : (now : Moment) (c : Command) (r : Reply) (next : Moment) (why : Refusal) → Law now.core → IsAtHandFor now c → Served now c r next → r ≡ Refused why → MayRefuse c why
 served_near now c r next why law hand h e =
-    among (MayRefuse c) (causes now c) why (causes_listed now c law hand) (from_cause (refusal now c) (turn_reply now c) why (turn_is_no_refusal now c why) (sym h.reply ∙ e))
+    among (MayRefuse c) (causes now c) why (causes_listed now c law hand) (cause_of now c r next why h e)
 
 -- what is far isn't at hand
 far_named : (s : State) (p : ℕ) → LiesFar s p → s.cell p ≢ 0

@@ -7,9 +7,9 @@ use Rattle.far_word.specs.declared.pointer.Place.{Place}
 use Rattle.far_word.specs.declared.pointer.PtrWord.{PtrWord}
 use Rattle.far_word.specs.declared.pointer.PtrWord.TheVariants.{Near}
 use Rattle.far_word.specs.Pointer.{read_of}
-use Rattle.far_core.specs.events.Clear.{is_near}
-use Rattle.far_core.specs.state.Law.{Law}
-use Rattle.far_core.specs.state.State.{State}
+use Rattle.far_events.specs.events.Clear.{is_near}
+use Rattle.far_events.specs.state.Law.{Law}
+use Rattle.far_events.specs.state.State.{State}
 use Rattle.far_evac.specs.Dealings.{says}
 use Rattle.far_evac.specs.Laws.{but_evac}
 use Rattle.far_evac.specs.Marking.{leaves_some, marked_core}

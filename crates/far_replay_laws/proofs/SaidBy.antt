@@ -3,7 +3,7 @@ use Rattle.std.proofs.Common.{◌≡◌, ◌≢◌, ℕ, Bool, true, not, ◌==�
 use Rattle.std.proofs.lemmas.Bool.{true≢false}
 use Rattle.std.proofs.lemmas.Fmt.{decimal_injective, decimal_is_IsNumeral}
 use Rattle.std.proofs.lemmas.Str.Parse.{digit_at}
-use Rattle.far_text.specs.Command.{Command, CommandLine, New, Open, On, Reads, Writes, Views, Close, Where, Drop, Try, Epoch, Log, Mutator, Book, Evacuator, Policy, Oldest, LeastLive, By, Script, Select, Mark, Evacuate, Round}
+use Rattle.far_text.specs.Command.{Command, CommandLine, On, Writes, Log, Mutator, Book, Evacuator, Policy, Oldest, LeastLive, By, Script, Select, Mark, Evacuate, Round}
 use Rattle.far_replay_laws.specs.Headline.{CountsOthers, IsSaidBy}
 use Rattle.far_text.specs.Says.{Says, policy_name}
 
@@ -65,16 +65,8 @@ policy_letter LeastLive = omega arith
 pub lines_numbered : (words : List (List ℕ)) (c : Command) (m : ℕ) → m < 2 ^ 64 → Says words (CommandLine c) →
     (IsSaidBy m c → (name : List ℕ) × (rest : List (List ℕ)) × (words ≡ name ∷ decimal m ∷ rest) × ¬ CountsOthers name)
     × ((name : List ℕ) (rest : List (List ℕ)) → words ≡ name ∷ decimal m ∷ rest → ¬ CountsOthers name → IsSaidBy m c)
-lines_numbered words (Mutator k (New len ds)) m small h = (numbered words _ k m _ h.0 (is_other (codes "new") refl), (λ name rest e ne. number_behind words _ k m _ h.1 small h.0 name rest e))
-lines_numbered words (Mutator k Open) m small h = (numbered words _ k m _ h.0 (is_other (codes "open") refl), (λ name rest e ne. number_behind words _ k m _ h.1 small h.0 name rest e))
 lines_numbered words (Mutator k (On p (Writes from bytes))) m small h = (numbered words _ k m _ h.1 (is_other (codes "write") refl), (λ name rest e ne. number_behind words _ k m _ h.2 small h.1 name rest e))
-lines_numbered words (Mutator k (On p (Reads from len))) m small h = (numbered words _ k m _ h.0 (is_other (codes "read") refl), (λ name rest e ne. number_behind words _ k m _ h.1 small h.0 name rest e))
-lines_numbered words (Mutator k Close) m small h = (numbered words _ k m _ h.0 (is_other (codes "close") refl), (λ name rest e ne. number_behind words _ k m _ h.1 small h.0 name rest e))
-lines_numbered words (Mutator k (Where p)) m small h = (numbered words _ k m _ h.0 (is_other (codes "where") refl), (λ name rest e ne. number_behind words _ k m _ h.1 small h.0 name rest e))
-lines_numbered words (Mutator k (Drop p)) m small h = (numbered words _ k m _ h.0 (is_other (codes "drop") refl), (λ name rest e ne. number_behind words _ k m _ h.1 small h.0 name rest e))
-lines_numbered words (Mutator k (On p Views)) m small h = (numbered words _ k m _ h.0 (is_other (codes "view") refl), (λ name rest e ne. number_behind words _ k m _ h.1 small h.0 name rest e))
-lines_numbered words (Mutator k (Try p)) m small h = (numbered words _ k m _ h.0 (is_other (codes "try") refl), (λ name rest e ne. number_behind words _ k m _ h.1 small h.0 name rest e))
-lines_numbered words (Mutator k Epoch) m small h = (numbered words _ k m _ h.0 (is_other (codes "epoch") refl), (λ name rest e ne. number_behind words _ k m _ h.1 small h.0 name rest e))
+lines_numbered words (Mutator k request) m small h = (numbered words _ k m _ h.0 (is_other _ refl), (λ name rest e ne. number_behind words _ k m _ h.1 small h.0 name rest e))
 lines_numbered words (Book (Log l)) m small h = ((λ no. absurd no), (λ name rest e ne. absurd (ne (inl (ap first_of (sym e ∙ h.0))))))
 lines_numbered words (Evacuator (Select (By policy) most)) m small h = ((λ no. absurd no), (λ name rest e ne. absurd (word_is_no_number (codes "select") (policy_name policy) _ words m small (policy_letter policy) h.0 name rest e)))
 lines_numbered words (Evacuator (Select (Script logs) most)) m small h = ((λ no. absurd no), (λ name rest e ne. absurd (word_is_no_number (codes "select") (codes "script") _ words m small (omega arith) h.0 name rest e)))

@@ -1,26 +1,23 @@
 -- Each command that is told by events leaves the sealed logs: nothing comes to lie there, and what lies there has EVAC where it had it.
-use Rattle.std.proofs.Common.{◌≡◌, ℕ, ◌+◌, ◌*◌, ◌/◌, ◌^◌, ◌<◌, ◌≤◌, ◌&&◌, Bool, true, false, not, cond, nat_eq, nat_lt, nat_le, Option, Some, None, is_some, List, bit_or, arith, ap, sym, refl, ◌∙◌, subst}
+use Rattle.std.proofs.Common.{◌≡◌, ℕ, ◌+◌, ◌*◌, ◌/◌, ◌^◌, ◌<◌, ◌≤◌, ◌&&◌, Bool, true, false, not, cond, nat_eq, Option, Some, None, is_some, List, bit_or, arith, ap, sym, refl, ◌∙◌, subst}
 use Rattle.std.proofs.lemmas.Bool.{and_parts, cond_both, false≢true, not-false}
-use Rattle.far_core.proofs.Bounds.{some_of}
-use Rattle.std.proofs.lemmas.Bool.Decides.{nat_tests}
+use Rattle.far_events.proofs.Bounds.{some_of}
 use Rattle.far_word.specs.declared.mark.Mark.{Mark}
 use Rattle.far_word.specs.declared.mark.Mark.TheVariants.{Hot, Evac, Moved, Dirty}
 use Rattle.far_word.specs.declared.mark.Marks.{Marks}
 use Rattle.far_word.specs.declared.pointer.Place.{Place}
 use Rattle.far_word.specs.declared.pointer.PtrWord.{PtrWord}
 use Rattle.far_word.specs.declared.pointer.PtrWord.TheVariants.{Near, Far}
-use Rattle.far_word.specs.declared.refused.Refused.{Refused as Refusal}
-use Rattle.far_word.specs.declared.refused.Refused.TheVariants.{NoRoom, NoPointer, Length, Closed, NotHeld, Range, Held, Marked}
 use Rattle.far_word.specs.declared.sizes.TheConstants.{CELLS, LOG_WORDS, LONGEST}
 use Rattle.far_word.specs.Mark.{marks_with, position}
 use Rattle.far_word.specs.Pointer.{read_of}
 use Rattle.far_word.specs.Sizes.{size_of}
-use Rattle.far_core.specs.declared.event.Kind.{Kind}
-use Rattle.far_core.specs.events.Step.{after_close, after_pin, is_opened}
-use Rattle.far_core.specs.state.Law.{Law, in_use}
+use Rattle.far_events.specs.declared.event.Kind.{Kind}
+use Rattle.far_events.specs.events.Step.{after_close, after_pin, is_opened}
+use Rattle.far_events.specs.state.Law.{Law, in_use}
 use Rattle.far_core.specs.state.Room.{room}
-use Rattle.far_core.specs.state.State.{State, put}
-use Rattle.far_core.proofs.Cells.{map_mark}
+use Rattle.far_events.specs.state.State.{State, put}
+use Rattle.far_events.proofs.Cells.{map_mark}
 use Rattle.far_core.proofs.Marking.{is_owners, read_mark}
 use Rattle.far_core.proofs.events.Soil.{reads}
 use Rattle.far_book.specs.book.Dealing.{goal_of, has_evac}
@@ -29,20 +26,20 @@ use Rattle.far_book.specs.book.SealedLogs.{KeepsSealed}
 use Rattle.far_book.specs.book.Fetching.{far_len}
 use Rattle.far_book.proofs.region.Owns.{own_law}
 use Rattle.far_book.proofs.region.SealedKept.{one_cell, sealed_logs_kept}
-use Rattle.far_text.specs.Command.{Command, New, Open, On, Writes, Close, Drop, Try, Epoch, Mutator, Evacuator}
+use Rattle.far_text.specs.Command.{Command, On, Writes, Mutator, Use}
 use Rattle.far_alone.specs.Dereference.{come, come_of, comes_to, comes_to_of, dereferenced, has_no_room, sought, sought_of}
 use Rattle.far_alone.specs.Effects.{is_slow, with_data, with_epoch, with_object, with_scope, with_view, without_object}
 use Rattle.far_replay.specs.Events.{IsNoStep}
 use Rattle.far_alone.specs.Events.{come_events, view_events}
 use Rattle.far_replay.specs.Moment.{Moment}
 use Rattle.far_alone.specs.Objects.{lowest_cell, uses}
-use Rattle.far_replay.specs.Turn.{effect, refusal, refused_effect, turn_effect, unless, with_new}
+use Rattle.far_replay.specs.Turn.{effect, refusal, after_use}
 use Rattle.far_replay.proofs.Brought.{MayBring, brought}
 use Rattle.far_replay.proofs.Dereferences.{derefs, sought_law, sought_may, view_leads}
-use Rattle.far_alone.proofs.Drops.{drop_is, unheld_is}
+use Rattle.far_alone.proofs.Drops.{drop_is}
 use Rattle.far_alone.proofs.Leading.{leads_law}
 use Rattle.far_alone.proofs.Lowest.{lowest_cell_is}
-use Rattle.far_replay.proofs.Turns.{four, lacks_place, marked_last, may_reach, new_sizes, three, tried}
+use Rattle.far_replay.proofs.Ways.{by_way, may_reach, new_numbers}
 
 -- ---- what leaves them
 pub sealed_same : (s t : State) → t.kind ≡ s.kind → t.tail ≡ s.tail → t.starts ≡ s.starts → t.cell ≡ s.cell → t.round ≡ s.round → t.clear ≡ s.clear → t.epoch ≡ s.epoch → t.mutators ≡ s.mutators → KeepsSealed s t
@@ -191,11 +188,6 @@ new_sealed s m len ds p place law within structure some most cell found =
     let inside : p < CELLS * s.mutators = omega (arith, low.1, within) in
     sealed_more s t u ((sealed_logs_kept s p len ds (own_law s law)).places place low.2 inside some most structure found) (sealed_same t u refl refl refl refl refl refl refl refl)
 
-new_at : (s : State) (m len ds : ℕ) (cell : Option ℕ) (place : Option Place) → Law s → (nat_lt m s.mutators && nat_lt ds 256) ≡ true → (nat_lt 0 len && nat_le len LONGEST) ≡ true →
-    lowest_cell s m ≡ cell → room s (size_of len) true ≡ place → KeepsSealed s (with_new s m len ds cell place)
-new_at s m len ds (Some p) (Some place) law owner sizes e f = let h = new_sizes m s.mutators len ds owner sizes in new_sealed s m len ds p place law h.0 h.1 h.2 h.3 e f
-new_at s m len ds _ _ law owner sizes e f = sealed_none s
-
 drop_sealed : (s : State) (m p : ℕ) → Law s → m < s.mutators → uses s m p ≡ true → s.held p ≡ None → KeepsSealed s (without_object s m p)
 drop_sealed s m p law within ours unheld =
     let free : State = with_free_cell s p in
@@ -203,47 +195,20 @@ drop_sealed s m p law within ours unheld =
     subst (KeepsSealed s) (sym (drop_is s m p law within ours unheld))
     (sealed_more s free gone (sealed_logs_kept s p 0 0 (own_law s law)).ends (sealed_same free gone refl refl refl refl refl refl refl refl))
 
--- ---- each command that isn't refused
-turn_sealed : (now : Moment) (c : Command) → IsNoStep c → Law now.core → refusal now c ≡ None → KeepsSealed now.core (turn_effect now c).core
-turn_sealed now (Mutator m (New len ds)) told law e =
-    let s : State = now.core in
-    let h = four (nat_lt m s.mutators && nat_lt ds 256) (nat_lt 0 len && nat_le len LONGEST) (is_some (lowest_cell s m)) (is_some (room s (size_of len) true)) Range Length NoPointer NoRoom e in
-    new_at s m len ds (lowest_cell s m) (room s (size_of len) true) law h.0 h.1 refl refl
-turn_sealed now (Mutator m Open) told law e = sealed_same now.core (with_scope now.core m) refl refl refl refl refl refl refl refl
-turn_sealed now (Mutator m (On p (Writes from bytes))) told law e =
-    let s : State = now.core in
-    let h = may_reach now m p (Writes from bytes) e in
-    writes_sealed s m p law h.0 h.1 from bytes h.2
-turn_sealed now (Mutator m (On p how)) told law e =
-    let h = may_reach now m p how e in
-    derefs_sealed now.core m p law h.0 h.1 h.2
-turn_sealed now (Mutator m Close) told law e = sealed_same now.core (after_close now.core m) refl refl refl refl refl refl refl refl
-turn_sealed now (Mutator m (Drop p)) told law e =
-    let s : State = now.core in
-    let h = three (nat_lt m s.mutators) (uses s m p) (is_some (s.held p)) Range NotHeld Held e in
-    drop_sealed s m p law (grind (arith, nat_tests, h.0)) h.1 (unheld_is (s.held p) h.2)
-turn_sealed now (Mutator m (Try p)) told law e =
-    let s : State = now.core in
-    let h = tried (nat_lt m s.mutators) (is_opened s m) (uses s m p) (is_slow s p) Range Closed NotHeld (Marked (s.cell p)) e in
-    view_sealed s p law (live s m p law h.1 h.2)
-turn_sealed now (Mutator m Epoch) told law e = sealed_same now.core (with_epoch now.core m) refl refl refl refl refl refl refl refl
-turn_sealed now (Evacuator step) told law e = absurd told
-turn_sealed now _ told law e = sealed_none now.core
-
--- ---- and each that is
-refused_sealed : (now : Moment) (c : Command) (why : Refusal) → IsNoStep c → Law now.core → refusal now c ≡ Some why → KeepsSealed now.core (refused_effect now c why).core
-refused_sealed now (Mutator m (On p how)) NoRoom told law e =
-    let h = lacks_place now m p how e in
-    sought_sealed now.core m p law h.0 h.1
-refused_sealed now (Mutator m (Try p)) (Marked word) told law e =
-    let h = marked_last (nat_lt m now.core.mutators) (is_opened now.core m) (uses now.core m p) (is_slow now.core p) (now.core.cell p) word e in
-    view_sealed now.core p law (live now.core m p law h.1 h.2)
-refused_sealed now (Evacuator step) why told law e = absurd told
-refused_sealed now c why told law e = sealed_none now.core
-
-sealed_at : (now : Moment) (c : Command) (o : Option Refusal) → IsNoStep c → Law now.core → refusal now c ≡ o → KeepsSealed now.core (unless o (refused_effect now c) (turn_effect now c)).core
-sealed_at now c None told law e = turn_sealed now c told law e
-sealed_at now c (Some why) told law e = refused_sealed now c why told law e
+-- ---- each command
+use_sealed : (now : Moment) (m p : ℕ) (how : Use) → Law now.core → refusal now (Mutator m (On p how)) ≡ None → KeepsSealed now.core (after_use (dereferenced now.core m p) p how)
+use_sealed now m p (Writes from bytes) law e = let h = may_reach now m p (Writes from bytes) e in writes_sealed now.core m p law h.0 h.1 from bytes h.2
+use_sealed now m p how law e = let h = may_reach now m p how e in derefs_sealed now.core m p law h.0 h.1 h.2
 
 pub sealed_aside : (now : Moment) (c : Command) → IsNoStep c → Law now.core → KeepsSealed now.core (effect now c).core
-sealed_aside now c told law = sealed_at now c (refusal now c) told law refl
+sealed_aside now c told law = by_way now (λ d es (x : Moment). KeepsSealed now.core x.core)
+    (λ d. sealed_none now.core)
+    (λ m len ds p place e cell found. let h = new_numbers now.core m len ds e in new_sealed now.core m len ds p place law h.0 h.1 h.2 h.3 cell found)
+    (λ m shut. sealed_same now.core (with_scope now.core m) refl refl refl refl refl refl refl refl)
+    (λ m shut. sealed_same now.core (with_epoch now.core m) refl refl refl refl refl refl refl refl)
+    (λ m opened. sealed_same now.core (after_close now.core m) refl refl refl refl refl refl refl refl)
+    (λ m p opened ours. view_sealed now.core p law (live now.core m p law opened ours))
+    (λ m p how opened ours full. sought_sealed now.core m p law opened ours)
+    (λ m p how e. use_sealed now m p how law e)
+    (λ m p within ours unheld. drop_sealed now.core m p law within ours unheld)
+    c told

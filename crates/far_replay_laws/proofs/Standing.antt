@@ -1,17 +1,16 @@
 -- A command that is no step of the evacuator leaves the round.
 use Rattle.std.proofs.Common.{◌≡◌, ℕ, Bool, true, ap, sym, refl, subst}
-use Rattle.far_core.specs.state.State.{State}
+use Rattle.far_events.specs.state.State.{State}
 use Rattle.far_book.specs.book.SealedLogs.{KeepsSealed}
 use Rattle.far_evac.specs.Callers.{StepsAside}
 use Rattle.far_evac.specs.MomentLaw.{MomentLaw}
 use Rattle.far_evac.specs.RoundSteps.{among}
-use Rattle.far_text.specs.Command.{Command, Try, Mutator, Book, Evacuator}
+use Rattle.far_text.specs.Command.{Command, Mutator, Book, Evacuator}
 use Rattle.far_replay.specs.Answers.{Commanded, Served, IsMoment}
-use Rattle.far_word.specs.declared.refused.Refused.TheVariants.{Marked}
 use Rattle.far_replay.proofs.Outcomes.{by_outcome}
 use Rattle.far_replay.specs.Events.{IsNoStep}
 use Rattle.far_replay.specs.Moment.{Moment, with_core, as_if_stored}
-use Rattle.far_reply.specs.Reply.{Reply, Refused}
+use Rattle.far_reply.specs.Reply.{Reply}
 use Rattle.far_replay_laws.specs.Stands.{RoundStands, Stands}
 use Rattle.far_replay_laws.specs.Steps.{IsChosen}
 use Rattle.far_replay.specs.Turn.{effect}
@@ -75,7 +74,7 @@ stands_as_if now later p row x = record {
 pub stands : (now : Moment) (c : Command) (r : Reply) (later : Moment) → Lasts now → Commanded now c r later → Stands now c later
 stands now c r later lasts h = by_outcome now r later (λ d. Stands now d later)
     (λ d h. served_stands now d r later lasts h)
-    (λ why m p how h. served_stands now (Mutator m (Try p)) (Refused (Marked (now.core.cell p))) later lasts h.tried)
+    (λ why m p how h. served_stands now _ _ later lasts h.tried)
     (λ why objects count h. tt)
     (λ why turns objects policy most count h. tt)
     (λ row m p d asks h. as_misled row now r later m p (λ now c r later. Stands now c later) (λ from bytes. stands_as_if now later p row) (λ from len bytes. stands_as_if now later p row) (stands_as_if now later p row)

@@ -23,13 +23,13 @@ use Rattle.far_policy.specs.Scripted.{FollowsScript}
 use Rattle.far_policy.proofs.Choices.{first_once, rows_told}
 use Rattle.far_policy.proofs.LeastOnes.{least_is_there}
 use Rattle.far_policy.proofs.Scripts.{follows_script}
-use Rattle.far_core.specs.declared.event.Kind.{Kind}
-use Rattle.far_core.specs.declared.event.Kind.TheVariants as kinds
-use Rattle.far_core.specs.events.Clear.{is_near}
-use Rattle.far_core.specs.events.Mark.{is_sealed}
-use Rattle.far_core.specs.state.Law.{Law}
-use Rattle.far_core.specs.state.Spans.{names_place}
-use Rattle.far_core.specs.state.State.{State}
+use Rattle.far_events.specs.declared.event.Kind.{Kind}
+use Rattle.far_events.specs.declared.event.Kind.TheVariants as kinds
+use Rattle.far_events.specs.events.Clear.{is_near}
+use Rattle.far_events.specs.events.Mark.{is_sealed}
+use Rattle.far_events.specs.state.Law.{Law}
+use Rattle.far_events.specs.state.Spans.{names_place}
+use Rattle.far_events.specs.state.State.{State}
 use Rattle.far_hand.specs.Finds.{body_of}
 use Rattle.far_book.specs.book.Dealing.{has_evac}
 use Rattle.far_book.specs.book.Effects.{marked}

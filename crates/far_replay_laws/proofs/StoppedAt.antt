@@ -5,9 +5,9 @@ use Rattle.std.proofs.lemmas.Bool.{false≢true}
 use Rattle.far_word.specs.declared.pointer.Place.{Place}
 use Rattle.far_word.specs.Sizes.{size_of}
 use Rattle.far_log.proofs.Members.{here, split}
-use Rattle.far_core.specs.state.Law.{is_dirty}
+use Rattle.far_events.specs.state.Law.{is_dirty}
 use Rattle.far_core.specs.state.Room.{room}
-use Rattle.far_core.specs.state.State.{State}
+use Rattle.far_events.specs.state.State.{State}
 use Rattle.far_book.proofs.region.Owns.{own_law}
 use Rattle.far_evac.specs.Live.{live_among}
 use Rattle.far_evac.specs.LiveLaws.{ComesFirst, IsInTurn, IsNearIn, ListsLive}

@@ -11,24 +11,24 @@ use Rattle.far_word.specs.declared.sizes.TheConstants.{CELLS}
 use Rattle.far_word.specs.Bytes.{packed_word}
 use Rattle.far_word.specs.Pointer.{read_of}
 use Rattle.far_word.specs.Sizes.{words_for}
-use Rattle.far_core.specs.declared.event.Event.{Event}
-use Rattle.far_core.specs.declared.event.Event.TheVariants.{Pin as Pins, Load as Loads, Store as Stores, Soil as Soils, Put as Puts, Name as Names}
-use Rattle.far_core.specs.declared.event.Reply.{Reply as Answer}
-use Rattle.far_core.specs.declared.event.Reply.TheVariants.{Refused as Failed}
-use Rattle.far_core.specs.declared.naming.Naming.{Naming}
-use Rattle.far_core.specs.declared.naming.Naming.TheVariants.{Places, Retires, Evicts, Stays, Moves, Fetches}
-use Rattle.far_core.specs.events.Copied.{copied_job}
-use Rattle.far_core.specs.events.Name.{after_naming, may_name}
-use Rattle.far_core.specs.events.Naming.{is_kept, naming_of}
-use Rattle.far_core.specs.events.Copies.{ends_padded}
-use Rattle.far_core.specs.events.NewSpans.{is_new_span}
-use Rattle.far_core.specs.events.namings.Moves.{after_move, may_move}
-use Rattle.far_core.specs.events.namings.Fetches.{is_stored_at}
-use Rattle.far_core.specs.events.Step.{after, answer, is_legal, is_opened, step_of}
-use Rattle.far_core.specs.state.Law.{Law}
-use Rattle.far_core.specs.state.State.{State}
-use Rattle.far_core.proofs.Copied.{copied_same}
-use Rattle.far_core.proofs.Cells.{map_mark}
+use Rattle.far_events.specs.declared.event.Event.{Event}
+use Rattle.far_events.specs.declared.event.Event.TheVariants.{Pin as Pins, Load as Loads, Store as Stores, Soil as Soils, Put as Puts, Name as Names}
+use Rattle.far_events.specs.declared.event.Reply.{Reply as Answer}
+use Rattle.far_events.specs.declared.event.Reply.TheVariants.{Refused as Failed}
+use Rattle.far_events.specs.declared.naming.Naming.{Naming}
+use Rattle.far_events.specs.declared.naming.Naming.TheVariants.{Places, Retires, Evicts, Stays, Moves, Fetches}
+use Rattle.far_events.specs.events.Copied.{copied_job}
+use Rattle.far_events.specs.events.Name.{after_naming, may_name}
+use Rattle.far_events.specs.events.Naming.{is_kept, naming_of}
+use Rattle.far_events.specs.events.Copies.{ends_padded}
+use Rattle.far_events.specs.events.NewSpans.{is_new_span}
+use Rattle.far_events.specs.events.namings.Moves.{after_move, may_move}
+use Rattle.far_events.specs.events.namings.Fetches.{is_stored_at}
+use Rattle.far_events.specs.events.Step.{after, answer, is_legal, is_opened, step_of}
+use Rattle.far_events.specs.state.Law.{Law}
+use Rattle.far_events.specs.state.State.{State}
+use Rattle.far_events.proofs.Copied.{copied_same}
+use Rattle.far_events.proofs.Cells.{map_mark}
 use Rattle.far_core.proofs.Leaving.{events_leave}
 use Rattle.far_text.specs.Command.{Command, Mutator, On, Use, Reads, Writes, Views}
 use Rattle.std.specs.List.{AllByRecursion as Each}
@@ -38,7 +38,7 @@ use Rattle.far_alone.specs.Dereference.{come, comes_to, dereferenced, sought, so
 use Rattle.far_alone.specs.Effects.{is_slow, with_view}
 use Rattle.far_book.specs.book.Effects.{near_word}
 use Rattle.far_alone.specs.EventRows.{AllSucceed, Succeeds}
-use Rattle.far_core.specs.events.Ranges.{after_events}
+use Rattle.far_events.specs.events.Ranges.{after_events}
 use Rattle.far_alone.specs.Events.{asked_events, asked_events_of, come_events, come_events_of, dereference_events, ends_inside, first_loads, first_word, last_loads, load_events, name_events, part_events, soil_events, sought_events, span_events, starts_inside, store_events, view_events, words_touched}
 use Rattle.far_replay.specs.Events.{events_for, refused_events, turn_events}
 use Rattle.far_replay.specs.Moment.{Moment, with_stored}

@@ -13,17 +13,17 @@ use Rattle.far_word.specs.declared.refused.Refused.{Refused as Refusal}
 use Rattle.far_word.specs.declared.refused.Refused.TheVariants.{NoRoom, Closed, Held, NotHeld, Range, Marked}
 use Rattle.far_word.specs.Sizes.{size_of, words_for}
 use Rattle.far_core.specs.state.Room.{room}
-use Rattle.far_core.specs.state.Shape.{is_shape}
-use Rattle.far_core.specs.state.Law.{Law, head_len}
-use Rattle.far_core.specs.state.State.{State, addr, put}
-use Rattle.far_core.specs.events.Ranges.{with_row}
-use Rattle.far_core.specs.events.Soil.{after_soil}
-use Rattle.far_core.specs.events.Step.{after_close, data_len, is_opened, near_data, near_len}
-use Rattle.far_core.specs.state.Spans.{names_place, spans_of}
-use Rattle.far_core.proofs.Bounds.{span_len}
-use Rattle.far_core.proofs.Cells.{unused}
-use Rattle.far_core.proofs.NewSpans.{at_tail}
-use Rattle.far_core.proofs.Put.{put_other, put_same}
+use Rattle.far_events.specs.state.Shape.{is_shape}
+use Rattle.far_events.specs.state.Law.{Law, head_len}
+use Rattle.far_events.specs.state.State.{State, addr, put}
+use Rattle.far_events.specs.events.Ranges.{with_row}
+use Rattle.far_events.specs.events.Soil.{after_soil}
+use Rattle.far_events.specs.events.Step.{after_close, data_len, is_opened, near_data, near_len}
+use Rattle.far_events.specs.state.Spans.{names_place, spans_of}
+use Rattle.far_events.proofs.Bounds.{span_len}
+use Rattle.far_events.proofs.Cells.{unused}
+use Rattle.far_events.proofs.NewSpans.{at_tail}
+use Rattle.far_events.proofs.Put.{put_other, put_same}
 use Rattle.far_book.specs.book.Effects.{placed}
 use Rattle.far_book.proofs.region.Reaching.{placing_legal}
 use Rattle.far_book.proofs.region.Written.{row_other}
@@ -49,7 +49,8 @@ use Rattle.far_replay.proofs.LogBytes.{bytes_move, celled_takes, headed_takes, m
 use Rattle.far_replay_laws.proofs.MovesTaken.{step_takes, stop_takes}
 use Rattle.far_alone.proofs.Soiling.{soiled_reads}
 use Rattle.far_replay.proofs.TakingView.{deref_more, view_takes}
-use Rattle.far_replay.proofs.Turns.{lacks_place, marked_last, new_object_is, new_parts, new_tests, reached, three, tried}
+use Rattle.far_replay.proofs.Turns.{new_object_is, new_parts, reached}
+use Rattle.far_replay.proofs.Ways.{lacks_place, marked_last, new_tests, three, tried}
 use Rattle.far_alone.proofs.Views.{Viewed}
 use Rattle.far_replay_laws.proofs.Refusals.{of_far}
 use Rattle.far_replay_laws.proofs.Misleading.{as_misled}
@@ -166,7 +167,7 @@ served_take now c r next is h =
 
 -- one that the device refuses takes nothing, as a try doesn't
 far_takes : (now : Moment) (c : Command) (m p : ℕ) (why : Refusal) (r : Reply) (next : Moment) → IsMoment now → Unbrought why now c m p r next → TakesNone now.core next.core
-far_takes now c m p why r next is h = served_take now (Mutator m (Try p)) (Refused (Marked (now.core.cell p))) next is h.tried
+far_takes now c m p why r next is h = served_take now _ _ next is h.tried
 
 use_takes_none : (now next : Moment) (m p : ℕ) (how : Use) (why : Refusal) → KeepsFar why → TakesNone now.core next.core → TakesRoom now (Mutator m (On p how)) (Refused why) next
 use_takes_none now next m p how why h none = of_far (λ x. TakesRoom now (Mutator m (On p how)) (Refused x) next) why h none none

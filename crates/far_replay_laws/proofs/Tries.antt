@@ -9,11 +9,11 @@ use Rattle.far_word.specs.declared.pointer.PtrWord.{PtrWord}
 use Rattle.far_word.specs.declared.pointer.PtrWord.TheVariants.{Near}
 use Rattle.far_word.specs.declared.refused.Refused.TheVariants.{Closed, NotHeld, Range, Marked}
 use Rattle.far_word.specs.Pointer.{read_of}
-use Rattle.far_core.specs.events.Step.{after_pin, is_opened, place_to_view}
-use Rattle.far_core.specs.state.Law.{Law}
-use Rattle.far_core.specs.state.State.{State}
+use Rattle.far_events.specs.events.Step.{after_pin, is_opened, place_to_view}
+use Rattle.far_events.specs.state.Law.{Law}
+use Rattle.far_events.specs.state.State.{State}
 use Rattle.far_core.specs.world.WorldOf.{world_of}
-use Rattle.far_core.proofs.Cells.{map_mark}
+use Rattle.far_events.proofs.Cells.{map_mark}
 use Rattle.far_replay.specs.Answers.{Served}
 use Rattle.far_text.specs.Command.{Mutator, Try}
 use Rattle.far_alone.specs.Effects.{is_slow, with_view}

@@ -7,7 +7,7 @@ use Rattle.far_word.specs.declared.refused.Refused.TheVariants.{Phase as WrongPh
 use Rattle.far_word.specs.declared.sizes.TheConstants.{EPOCH_END}
 use Rattle.far_policy.specs.Scripted.{FollowsScript, scripted}
 use Rattle.far_policy.proofs.Scripts.{follows_script}
-use Rattle.far_core.specs.state.Law.{Law}
+use Rattle.far_events.specs.state.Law.{Law}
 use Rattle.far_evac.specs.Choosing.{after_selecting}
 use Rattle.far_evac.specs.Marking.{after_marking}
 use Rattle.far_evac.specs.Moment.{Moment, plus, progress_of, tally_of}

@@ -10,13 +10,13 @@ use Rattle.far_word.specs.Pointer.{read_of}
 use Rattle.far_word.specs.Sizes.{size_of}
 use Rattle.far_word.proofs.PointerLaws.{read_says}
 use Rattle.far_log.proofs.Members.{here, there}
-use Rattle.far_core.specs.events.Naming.{no_marks, unmarked}
+use Rattle.far_events.specs.events.Naming.{no_marks, unmarked}
 use Rattle.far_core.specs.laws.Rooms.{IsRoom, RoomIs}
-use Rattle.far_core.specs.state.Law.{Law, is_dirty}
+use Rattle.far_events.specs.state.Law.{Law, is_dirty}
 use Rattle.far_core.specs.state.Room.{room}
-use Rattle.far_core.specs.state.State.{State}
+use Rattle.far_events.specs.state.State.{State}
 use Rattle.far_core.specs.world.WorldOf.{object_of, world_of}
-use Rattle.far_core.proofs.Put.{put_same}
+use Rattle.far_events.proofs.Put.{put_same}
 use Rattle.far_core.proofs.RoomLaws.{room_right}
 use Rattle.far_book.specs.book.Dealing.{has_evac}
 use Rattle.far_book.proofs.region.EvictingLaw.{evicting}

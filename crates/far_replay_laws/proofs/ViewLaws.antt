@@ -12,15 +12,15 @@ use Rattle.far_word.specs.Bytes.{packed_word}
 use Rattle.far_word.specs.Header.{head_word}
 use Rattle.far_word.specs.Pointer.{read_of}
 use Rattle.far_word.specs.Sizes.{size_of, words_for}
-use Rattle.far_core.specs.declared.event.Event.{Event}
-use Rattle.far_core.specs.declared.event.Event.TheVariants.{ReadEpoch as ReadsEpoch, Open as Opens, Pin as Pins, Load as Loads, Store as Stores, Soil as Soils, Close as Closes, Adopt as Adopts, Put as Puts, Name as Names}
-use Rattle.far_core.specs.declared.event.Reply.{Reply as Answer}
-use Rattle.far_core.specs.declared.event.Reply.TheVariants.{Refused as Failed}
-use Rattle.far_core.specs.state.Law.{Law}
+use Rattle.far_events.specs.declared.event.Event.{Event}
+use Rattle.far_events.specs.declared.event.Event.TheVariants.{ReadEpoch as ReadsEpoch, Open as Opens, Pin as Pins, Load as Loads, Store as Stores, Soil as Soils, Close as Closes, Adopt as Adopts, Put as Puts, Name as Names}
+use Rattle.far_events.specs.declared.event.Reply.{Reply as Answer}
+use Rattle.far_events.specs.declared.event.Reply.TheVariants.{Refused as Failed}
+use Rattle.far_events.specs.state.Law.{Law}
 use Rattle.far_core.specs.state.Room.{room}
-use Rattle.far_core.specs.state.State.{State}
-use Rattle.far_core.specs.events.Copies.{data_at}
-use Rattle.far_core.specs.events.Step.{is_opened, step_of, is_legal, after, answer, Fits}
+use Rattle.far_events.specs.state.State.{State}
+use Rattle.far_events.specs.events.Copies.{data_at}
+use Rattle.far_events.specs.events.Step.{is_opened, step_of, is_legal, after, answer, Fits}
 use Rattle.far_core.proofs.Leaving.{held_stays}
 use Rattle.far_replay.specs.Moment.{Moment, as_if_stored, moment_of, with_stored}
 use Rattle.far_replay.specs.Answers.{Answered, Commanded, Served, Unbrought, IsMoment}
@@ -33,7 +33,7 @@ use Rattle.far_text.specs.Command.{Command, New, Open, On, Use, Reads, Writes, V
 use Rattle.far_text.specs.Written.{WritesBytes, AllWriteBytes}
 use Rattle.far_replay.specs.Changes.{ViewsObject}
 use Rattle.far_replay_laws.specs.Headline.{IsAtHandFor, LogsStay, Reaches, ViewsNothing, ViewsAfter, carried_as, TellsEvents}
-use Rattle.far_core.specs.events.Ranges.{after_events}
+use Rattle.far_events.specs.events.Ranges.{after_events}
 use Rattle.far_alone.specs.EventRows.{AllSucceed, AtHand, Succeeds}
 use Rattle.far_reply.specs.Reply.{Reply, Ended, Evacuated, Refused}
 use Rattle.far_replay.specs.Events.{events_for, IsNoStep, turn_events, refused_events}
@@ -48,14 +48,15 @@ use Rattle.far_replay.proofs.Lasting.{Lasts, all_pass, command_carried, moment_l
 use Rattle.far_replay.proofs.Outcomes.{by_outcome}
 use Rattle.far_replay_laws.proofs.Refusals.{EachCause, EachFirst, among, each_first, far_away, of_far}
 use Rattle.far_replay.proofs.RoundLeads.{reached_reaches, step_keeps, step_leads}
-use Rattle.far_replay.proofs.Turns.{access_fact, lacks_place, led, marked_last, reached, read_leads, tried, write_leads}
+use Rattle.far_replay.proofs.Turns.{led, reached, read_leads, write_leads}
+use Rattle.far_replay.proofs.Ways.{access_fact, lacks_place, marked_last, tried, by_way}
 use Rattle.far_replay.proofs.Dereferences.{sought_held, sought_leads, view_views}
 use Rattle.far_alone.proofs.Views.{fast_seen, view_is, slow_view}
 use Rattle.far_replay.proofs.ViewsRest.{NoClose, ClosesLast, none_closes, fronts_stay, held_now}
 use Rattle.std.specs.List.{AllByRecursion as Each}
 use Rattle.far_alone.proofs.Each.{Each-append, Each-row}
 use Rattle.far_replay.proofs.AsIfStored.{stored_again}
-use Rattle.far_core.proofs.Put.{put_same}
+use Rattle.far_events.proofs.Put.{put_same}
 use Rattle.far_replay_laws.proofs.Misleading.{as_misled, by_asked, misled_allowed, misled_uses}
 use Rattle.far_replay_laws.proofs.StoredApart.{StoresNone, asked_none, row_as_if, row_keeps, row_succeeds}
 
@@ -175,7 +176,7 @@ served_views now (Book inquiry) r next lasts later h = told_views now (Book inqu
 served_views now (Evacuator step) r next lasts later h = ap (λ (x : Moment). x.core.held) h.moment ∙ (step_keeps now step lasts.law lasts.round lasts.alone).held
 
 tried_views : (now : Moment) (c : Command) (why : Refusal) (m p : ℕ) (r : Reply) (next : Moment) → Lasts now → Unbrought why now c m p r next → next.core.held ≡ now.core.held
-tried_views now c why m p r next lasts h = served_views now (Mutator m (Try p)) (Refused (Marked (now.core.cell p))) next lasts tt h.tried
+tried_views now c why m p r next lasts h = served_views now _ _ next lasts tt h.tried
 
 -- and one that is given other words views what it would if they were stored
 views_as_if : (s t : State) (p : ℕ) (row : ℕ → ℕ) → ViewsObject (with_stored s p row) (with_stored t p row) p → ViewsObject s t p
@@ -231,10 +232,8 @@ deref_no_close s m p =
     (Each-append NoClose (sought_events s m p) came (sought_no_close s m p) (come_no_close (sought s m p) p (comes_to (sought s m p) p) (read_of ((sought s m p).cell p)))) (view_no_close (come (sought s m p) p) m p))
     (λ _. view_no_close s m p)
 
-closes_last : (now : Moment) (c : Command) → ClosesLast (turn_events now c)
-closes_last now (Mutator m (New len ds)) = none_closes (turn_events now (Mutator m (New len ds))) (no_close (turn_events now (Mutator m (New len ds))) (news m len ds (lowest_cell now.core m) (room now.core (size_of len) true)))
-closes_last now (Mutator m Open) = none_closes (open_events now.core m) (no_close (open_events now.core m) (opens now.core m))
-closes_last now (Mutator m (On p (Writes from bytes))) =
+use_closes_last : (now : Moment) (m p : ℕ) (how : Use) → ClosesLast (turn_events now (Mutator m (On p how)))
+use_closes_last now m p (Writes from bytes) =
     let new : List ℕ = with_range (data_of (dereferenced now.core m p) p) from bytes in
     let part : List Event = part_events m p from (length bytes) in
     let stored : List Event = store_events m p (first_word from) (words_touched from (length bytes)) new in
@@ -242,22 +241,23 @@ closes_last now (Mutator m (On p (Writes from bytes))) =
     none_closes (dereference_events now.core m p ++ soil ++ part ++ stored) (Each-append NoClose (dereference_events now.core m p ++ soil ++ part) stored
     (Each-append NoClose (dereference_events now.core m p ++ soil) part
     (Each-append NoClose (dereference_events now.core m p) soil (deref_no_close now.core m p) (no_close soil (soils (dereferenced now.core m p) m p))) (no_close part (parts m p from (length bytes)))) (no_close stored (stores m p (first_word from) (words_touched from (length bytes)) new)))
-closes_last now (Mutator m (On p (Reads from len))) =
+use_closes_last now m p (Reads from len) =
     let loaded : List Event = load_events m p (first_word from) (words_touched from len) in
     none_closes (dereference_events now.core m p ++ loaded) (Each-append NoClose (dereference_events now.core m p) loaded (deref_no_close now.core m p) (no_close loaded (loads m p (first_word from) (words_touched from len))))
-closes_last now (Mutator m (Drop p)) = none_closes (drop_events now.core m p) (no_close (drop_events now.core m p) (drop_leaves_views now.core m p))
-closes_last now (Mutator m (On p Views)) = none_closes (dereference_events now.core m p) (deref_no_close now.core m p)
-closes_last now (Mutator m (Try p)) = none_closes (view_events now.core m p) (view_no_close now.core m p)
-closes_last now _ = tt
+use_closes_last now m p Views = none_closes (dereference_events now.core m p) (deref_no_close now.core m p)
 
-refused_closes_last : (now : Moment) (c : Command) (why : Refusal) → ClosesLast (refused_events now c why)
-refused_closes_last now (Mutator m (On p how)) NoRoom = none_closes (sought_events now.core m p) (sought_no_close now.core m p)
-refused_closes_last now (Mutator m (Try p)) (Marked word) = none_closes (view_events now.core m p) (view_no_close now.core m p)
-refused_closes_last now c why = tt
-
-command_closes_last : (now : Moment) (c : Command) (o : Option Refusal) → ClosesLast (unless o (refused_events now c) (turn_events now c))
-command_closes_last now c None = closes_last now c
-command_closes_last now c (Some why) = refused_closes_last now c why
+command_closes_last : (now : Moment) (c : Command) → IsNoStep c → ClosesLast (events_for now c)
+command_closes_last now c told = by_way now (λ d es (x : Moment). ClosesLast es)
+    (λ d. tt)
+    (λ m len ds p place e cell found. none_closes (new_events m len ds (Some p) (Some place)) (no_close (new_events m len ds (Some p) (Some place)) (news m len ds (Some p) (Some place))))
+    (λ m shut. none_closes (open_events now.core m) (no_close (open_events now.core m) (opens now.core m)))
+    (λ m shut. tt)
+    (λ m opened. tt)
+    (λ m p opened ours. none_closes (view_events now.core m p) (view_no_close now.core m p))
+    (λ m p how opened ours full. none_closes (sought_events now.core m p) (sought_no_close now.core m p))
+    (λ m p how e. use_closes_last now m p how)
+    (λ m p within ours unheld. none_closes (drop_events now.core m p) (no_close (drop_events now.core m p) (drop_leaves_views now.core m p)))
+    c told
 
 -- ---- each command is carried out by events
 -- one that is served by its own
@@ -290,9 +290,9 @@ told_reach now c r next told lasts bytes h =
       ends = x.state;
       pass = all_pass now.core (events_for now c) lasts.law x.fit x.made;
       succeed = x.made;
-      come = λ _. all_come now c (refusal now c) told refl lasts.law;
+      come = λ _. all_come now c told lasts.law;
       stay = λ es mid rest front p place. fronts_stay now.core es mid rest lasts.law (subst (Each Fits) (sym front) x.fit)
-          (subst ClosesLast (sym front) (command_closes_last now c (refusal now c))) p place;
+          (subst ClosesLast (sym front) (command_closes_last now c told)) p place;
     }
 
 -- what a step reaches, and steps one after the other
@@ -378,7 +378,7 @@ module _ (row : ℕ → ℕ) (now : Moment) (c : Command) (m p : ℕ) (r : Reply
     succeed = all_made;
     come = λ _ hand. absurd (far_away now.core p h.far (at_hand hand));
     stay = λ es mid rest front q place. fronts_stay now.core es mid rest lasts.law (subst (Each Fits) (sym front) carried.fit)
-        (subst ClosesLast (sym front) (command_closes_last other c (refusal other c))) q place;
+        (subst ClosesLast (sym front) (command_closes_last other c told)) q place;
   }
 
 as_try : (why : Refusal) (m p : ℕ) (how : Use) → KeepsFar why → carried_as (Mutator m (On p how)) (Refused why) ≡ Mutator m (Try p)

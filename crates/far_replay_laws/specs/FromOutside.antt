@@ -9,8 +9,8 @@ use Rattle.far_word.specs.declared.refused.Refused.TheVariants.{Damaged, Device 
 use Rattle.far_word.specs.Pointer.{read_of}
 use Rattle.far_word.specs.Sizes.{size_of}
 use Rattle.far_core.specs.state.Room.{room}
-use Rattle.far_core.specs.state.Shape.{is_shape}
-use Rattle.far_core.specs.state.State.{State}
+use Rattle.far_events.specs.state.Shape.{is_shape}
+use Rattle.far_events.specs.state.State.{State}
 use Rattle.far_evac.specs.declared.phase.Phase.TheVariants.{Idle, Evacuating}
 use Rattle.far_text.specs.Command.{Command, Device, Flawed, Fail, Flip, Short, Heap, On, Mutator, Evacuator, Evacuate, Round}
 use Rattle.far_text.specs.Grammar.{trace_of}

@@ -13,13 +13,13 @@ use Rattle.far_word.specs.declared.refused.Refused.TheVariants.{NoRoom, NoPointe
 use Rattle.far_word.specs.declared.sizes.TheConstants.{CELLS, LOG_WORDS, LONGEST}
 use Rattle.far_word.specs.Pointer.{read_of, with_mark}
 use Rattle.far_word.specs.Sizes.{size_of}
-use Rattle.far_core.specs.declared.event.Event.{Event}
-use Rattle.far_core.specs.events.Step.{is_opened}
-use Rattle.far_core.specs.state.Law.{IsStored, Law}
+use Rattle.far_events.specs.declared.event.Event.{Event}
+use Rattle.far_events.specs.events.Step.{is_opened}
+use Rattle.far_events.specs.state.Law.{IsStored, Law}
 use Rattle.far_core.specs.laws.Observed.{live_bytes, dead_bytes, unused_bytes, HasOnePlace, NamesOnce, OneLive}
 use Rattle.far_core.specs.state.Room.{room}
-use Rattle.far_core.specs.state.Shape.{is_shape}
-use Rattle.far_core.specs.state.State.{State, put}
+use Rattle.far_events.specs.state.Shape.{is_shape}
+use Rattle.far_events.specs.state.State.{State, put}
 use Rattle.far_core.specs.world.World.{Object, Group, FarSide}
 use Rattle.far_core.specs.world.WorldOf.{world_of}
 use Rattle.far_book.specs.book.Reached.{IsOfBook}
@@ -36,7 +36,7 @@ use Rattle.far_text.specs.Command.{Command, Heap, CommandLine, New, Open, On, Re
 use Rattle.far_text.specs.Grammar.{trace_of}
 use Rattle.far_replay.specs.Commanded.{AsksFor, KeepsNear, LiesFar}
 use Rattle.far_replay.specs.Moment.{Moment, as_if_stored}
-use Rattle.far_core.specs.events.Ranges.{after_events}
+use Rattle.far_events.specs.events.Ranges.{after_events}
 use Rattle.far_alone.specs.EventRows.{AllPass, AllSucceed, AllComeToPass, AtHand}
 use Rattle.far_replay.specs.Events.{events_for, IsNoStep}
 use Rattle.far_replay_laws.specs.FromOutside.{FailsAsSaid, LiesAsSaid, NoneLacks, gives_stored}

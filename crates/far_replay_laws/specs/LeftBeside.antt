@@ -5,8 +5,8 @@ use Rattle.far_word.specs.declared.pointer.Place.{Place}
 use Rattle.far_word.specs.declared.pointer.PtrWord.TheVariants.{Near}
 use Rattle.far_word.specs.declared.sizes.TheConstants.{CELLS}
 use Rattle.far_word.specs.Pointer.{read_of}
-use Rattle.far_core.specs.events.Naming.{unmarked}
-use Rattle.far_core.specs.state.State.{State}
+use Rattle.far_events.specs.events.Naming.{unmarked}
+use Rattle.far_events.specs.state.State.{State}
 use Rattle.far_text.specs.Command.{Command, New, Open, On, Close, Where, Drop, Try, Epoch, Mutator, Book, Evacuator}
 use Rattle.far_replay.specs.Answers.{Commanded, IsMoment}
 use Rattle.far_replay.specs.Moment.{Moment}

@@ -3,9 +3,9 @@ use Rattle.std.specs.Prelude.{◌≡◌, ◌≢◌, ◌↔◌, ◌⊎◌, ℕ, �
 use Rattle.std.specs.List.{IsDistinct, sum_by, range_with_len}
 use Rattle.far_word.specs.declared.sizes.TheConstants.{LOG_BYTES}
 use Rattle.far_word.specs.Pointer.{read_of}
-use Rattle.far_core.specs.declared.event.Kind.TheVariants as kinds
+use Rattle.far_events.specs.declared.event.Kind.TheVariants as kinds
 use Rattle.far_core.specs.laws.Observed.{live_bytes, dead_bytes, unused_bytes}
-use Rattle.far_core.specs.state.State.{State}
+use Rattle.far_events.specs.state.State.{State}
 use Rattle.far_evac.specs.TakesRoom.{bytes_near}
 use Rattle.far_replay.specs.Moment.{Moment}
 use Rattle.far_replay_laws.specs.Steps.{IsChosen, IsRetired, IsSentFar, LiesIn}

@@ -2,8 +2,8 @@
 use Rattle.std.specs.Prelude.{◌≡◌, ℕ, ◌<◌, ◌≤◌, true, false, Ok, List, ◌∷◌, Option, None, All}
 use Rattle.far_word.specs.declared.refused.Refused.{Refused as Refusal}
 use Rattle.far_word.specs.declared.sizes.TheConstants.{LONGEST}
-use Rattle.far_core.specs.events.Step.{is_opened}
-use Rattle.far_core.specs.state.Shape.{is_shape}
+use Rattle.far_events.specs.events.Step.{is_opened}
+use Rattle.far_events.specs.state.Shape.{is_shape}
 use Rattle.far_text.specs.Command.{Command, Heap, New, Open, Close, Where, Drop, Try, Epoch, Logs as AsksLogs, Log, Mutator, Book, Evacuator, Step, Device}
 use Rattle.far_text.specs.Grammar.{trace_of}
 use Rattle.far_replay.specs.Answers.{Answers, first_moment, is_true, shape_of}

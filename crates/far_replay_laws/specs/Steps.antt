@@ -13,7 +13,7 @@ use Rattle.far_policy.specs.LeastLive.{TakesLeast}
 use Rattle.far_policy.specs.Logs.{logs_of}
 use Rattle.far_policy.specs.Scripted.{FollowsScript}
 use Rattle.far_core.specs.state.Room.{room}
-use Rattle.far_core.specs.state.State.{State}
+use Rattle.far_events.specs.state.State.{State}
 use Rattle.far_book.specs.book.Rows.{row_of}
 use Rattle.far_evac.specs.Census.{kind_in}
 use Rattle.far_evac.specs.LiveLaws.{IsBehind}

@@ -1,4 +1,4 @@
--- The set of the slots' lines, line by line.
+-- The set of what slots say, of their lines or of the stamps of these, one by one.
 use Rattle.std.proofs.Common.{◌≡◌, ℕ, zero, suc, Bool, true, false, ◌||◌, Option, Some, None, List, [], ◌∷◌, ◌++◌, ◌⊎◌, inl, inr, refl, sym, ◌∙◌, ap, subst}
 use Rattle.std.specs.List.{list_any}
 use Rattle.std.specs.Option.{option_to_list}
@@ -11,7 +11,7 @@ use Rattle.far_index.specs.declared.slot.Slot.{Slot}
 use Rattle.far_index.specs.declared.slot.Slot.TheVariants.{Empty}
 use Rattle.far_index.specs.Slots.{slot_at}
 use Rattle.far_seen.specs.Lines.{LineSet}
-use Rattle.far_seen.specs.Parts.{Bytes, line_in, line_at, lines_in}
+use Rattle.far_seen.specs.Parts.{all_in, set_in}
 
 abbrev pub tied : List ℕ → List ℕ → Bool
 tied q k = eq_by_cmp (slice_cmp nat_cmp) q k
@@ -20,9 +20,9 @@ tied q k = eq_by_cmp (slice_cmp nat_cmp) q k
 pub ties : (q k : List ℕ) → Decides (tied q k) (q ≡ k)
 ties q k = subst (λ t. Decides t (q ≡ k)) (texts_ties q k) (bytes_eq-Decides q k)
 
--- some slot has it
-abbrev pub Mem : Bytes → List Slot → List ℕ → Type 0
-Mem b ss q = (i : ℕ) × (line_at b ss i ≡ Some q)
+-- some slot says it
+abbrev pub Says : (Slot → Option (List ℕ)) → List Slot → List ℕ → Type 0
+Says f ss q = (i : ℕ) × (f (slot_at ss i) ≡ Some q)
 
 abbrev any_of : List ℕ → Option (List ℕ) → Bool
 any_of q None = false
@@ -56,27 +56,24 @@ any_some q (Some x) e = ap (λ y. Some y) (sym ((ties q x).0 e))
 some_any : (q : List ℕ) (o : Option (List ℕ)) → o ≡ Some q → any_of q o ≡ true
 some_any q o e = ap (any_of q) e ∙ (ties q q).1 refl
 
-found : (q : List ℕ) (b : Bytes) (ss : List Slot) → list_any (tied q) (lines_in b ss) ≡ true → Mem b ss q
-found q b [] e = absurd (not_both false refl e)
-found q b (s ∷ ss) e =
-    elim (either (any_of q (line_in b s)) (list_any (tied q) (lines_in b ss)) (sym (front q (line_in b s) (lines_in b ss)) ∙ e)) [
-      | inl here ↦ (zero, any_some q (line_in b s) here)
-      | inr there ↦ let rest = found q b ss there in (suc rest.0, rest.1)
+found : (q : List ℕ) (f : Slot → Option (List ℕ)) (ss : List Slot) → list_any (tied q) (all_in f ss) ≡ true → Says f ss q
+found q f [] e = absurd (not_both false refl e)
+found q f (s ∷ ss) e =
+    elim (either (any_of q (f s)) (list_any (tied q) (all_in f ss)) (sym (front q (f s) (all_in f ss)) ∙ e)) [
+      | inl here ↦ (zero, any_some q (f s) here)
+      | inr there ↦ let rest = found q f ss there in (suc rest.0, rest.1)
     ]
 
-finds : (q : List ℕ) (b : Bytes) (ss : List Slot) (i : ℕ) → line_at b ss i ≡ Some q → list_any (tied q) (lines_in b ss) ≡ true
-finds q b [] i e = absurd (none_some q e)
-finds q b (s ∷ ss) zero e = front q (line_in b s) (lines_in b ss) ∙ left (any_of q (line_in b s)) (list_any (tied q) (lines_in b ss)) (some_any q (line_in b s) e)
-finds q b (s ∷ ss) (suc i) e = front q (line_in b s) (lines_in b ss) ∙ right (any_of q (line_in b s)) (list_any (tied q) (lines_in b ss)) (finds q b ss i e)
+finds : (q : List ℕ) (f : Slot → Option (List ℕ)) → f Empty ≡ None → (ss : List Slot) (i : ℕ) → f (slot_at ss i) ≡ Some q → list_any (tied q) (all_in f ss) ≡ true
+finds q f none [] i e = absurd (none_some q (sym none ∙ e))
+finds q f none (s ∷ ss) zero e = front q (f s) (all_in f ss) ∙ left (any_of q (f s)) (list_any (tied q) (all_in f ss)) (some_any q (f s) e)
+finds q f none (s ∷ ss) (suc i) e = front q (f s) (all_in f ss) ∙ right (any_of q (f s)) (list_any (tied q) (all_in f ss)) (finds q f none ss i e)
 
-abbrev pub set_of : Bytes → List Slot → LineSet
-set_of b ss = set.from_list (lines_in b ss)
-
--- a line is in the set if some slot has it
-pub contains_mem : (q : List ℕ) (b : Bytes) (ss : List Slot) → Decides (set.contains (set_of b ss) q) (Mem b ss q)
-contains_mem q b ss = (
-  (λ e. found q b ss (sym (set.contains-from_list nat_list_cmp_total (lines_in b ss) q) ∙ e)),
-  (λ m. set.contains-from_list nat_list_cmp_total (lines_in b ss) q ∙ finds q b ss m.0 m.1),
+-- a list of numbers is in the set if some slot says it
+pub contains_said : (q : List ℕ) (f : Slot → Option (List ℕ)) (ss : List Slot) → f Empty ≡ None → Decides (set.contains (set_in f ss) q) (Says f ss q)
+contains_said q f ss none = (
+  (λ e. found q f ss (sym (set.contains-from_list nat_list_cmp_total (all_in f ss) q) ∙ e)),
+  (λ m. set.contains-from_list nat_list_cmp_total (all_in f ss) q ∙ finds q f none ss m.0 m.1),
 )
 
 both_true : (x y : Bool) → (x ≡ true → y ≡ true) → (y ≡ true → x ≡ true) → x ≡ y
@@ -84,39 +81,39 @@ both_true true y f g = sym (f refl)
 both_true false true f g = absurd (not_both false refl (g refl))
 both_true false false f g = refl
 
-pub same_members : (b c : Bytes) (ss ts : List Slot) → ((q : List ℕ) → Mem b ss q → Mem c ts q) → ((q : List ℕ) → Mem c ts q → Mem b ss q) → set_of c ts ≡ set_of b ss
-same_members b c ss ts forth back =
-    set.same_set nat_list_cmp_total (set.slice_cmp-IsAntisymmetric set.nat_cmp-IsAntisymmetric) (set_of c ts) (set_of b ss) (λ q.
-    both_true _ _ (λ e. (contains_mem q b ss).1 (back q ((contains_mem q c ts).0 e))) (λ e. (contains_mem q c ts).1 (forth q ((contains_mem q b ss).0 e))))
+pub same_members : (f g : Slot → Option (List ℕ)) (ss ts : List Slot) → f Empty ≡ None → g Empty ≡ None → ((q : List ℕ) → Says f ss q → Says g ts q) → ((q : List ℕ) → Says g ts q → Says f ss q) → set_in g ts ≡ set_in f ss
+same_members f g ss ts m n forth back =
+    set.same_set nat_list_cmp_total (set.slice_cmp-IsAntisymmetric set.nat_cmp-IsAntisymmetric) (set_in g ts) (set_in f ss) (λ q.
+    both_true _ _ (λ e. (contains_said q f ss m).1 (back q ((contains_said q g ts n).0 e))) (λ e. (contains_said q g ts n).1 (forth q ((contains_said q f ss m).0 e))))
 
 -- one member more
-pub one_more : (b c : Bytes) (ss ts : List Slot) (line : List ℕ) → ((q : List ℕ) → Mem b ss q → Mem c ts q) → Mem c ts line → ((q : List ℕ) → Mem c ts q → (q ≡ line) ⊎ Mem b ss q) →
-    set_of c ts ≡ set.insert (set_of b ss) line
-one_more b c ss ts line forth here back =
-    set.same_set nat_list_cmp_total (set.slice_cmp-IsAntisymmetric set.nat_cmp-IsAntisymmetric) (set_of c ts) (set.insert (set_of b ss) line) (λ q.
+pub one_more : (f g : Slot → Option (List ℕ)) (ss ts : List Slot) (line : List ℕ) → f Empty ≡ None → g Empty ≡ None → ((q : List ℕ) → Says f ss q → Says g ts q) → Says g ts line →
+    ((q : List ℕ) → Says g ts q → (q ≡ line) ⊎ Says f ss q) → set_in g ts ≡ set.insert (set_in f ss) line
+one_more f g ss ts line m n forth here back =
+    set.same_set nat_list_cmp_total (set.slice_cmp-IsAntisymmetric set.nat_cmp-IsAntisymmetric) (set_in g ts) (set.insert (set_in f ss) line) (λ q.
     both_true _ _
-    (λ e. set.contains-insert nat_list_cmp_total (set_of b ss) line q
-    ∙ elim (back q ((contains_mem q c ts).0 e)) [
-      | inl same ↦ left (tied q line) (set.contains (set_of b ss) q) ((ties q line).1 same)
-      | inr old ↦ right (tied q line) (set.contains (set_of b ss) q) ((contains_mem q b ss).1 old)
+    (λ e. set.contains-insert nat_list_cmp_total (set_in f ss) line q
+    ∙ elim (back q ((contains_said q g ts n).0 e)) [
+      | inl same ↦ left (tied q line) (set.contains (set_in f ss) q) ((ties q line).1 same)
+      | inr old ↦ right (tied q line) (set.contains (set_in f ss) q) ((contains_said q f ss m).1 old)
     ])
-    (λ e. (contains_mem q c ts).1 (elim (either (tied q line) (set.contains (set_of b ss) q) (sym (set.contains-insert nat_list_cmp_total (set_of b ss) line q) ∙ e)) [
-      | inl same ↦ subst (λ k. Mem c ts k) (sym ((ties q line).0 same)) here
-      | inr old ↦ forth q ((contains_mem q b ss).0 old)
+    (λ e. (contains_said q g ts n).1 (elim (either (tied q line) (set.contains (set_in f ss) q) (sym (set.contains-insert nat_list_cmp_total (set_in f ss) line q) ∙ e)) [
+      | inl same ↦ subst (λ k. Says g ts k) (sym ((ties q line).0 same)) here
+      | inr old ↦ forth q ((contains_said q f ss m).0 old)
     ])))
 
 -- no member
-pub no_member : (b : Bytes) (ss : List Slot) → ((j : ℕ) → slot_at ss j ≡ Empty) → set_of b ss ≡ set.empty
-no_member b ss all =
-    set.same_set nat_list_cmp_total (set.slice_cmp-IsAntisymmetric set.nat_cmp-IsAntisymmetric) (set_of b ss) set.empty (λ q.
-    both_true _ _ (λ e. let m = (contains_mem q b ss).0 e in absurd (none_some q (sym (ap (line_in b) (all m.0)) ∙ m.1)))
+pub no_member : (f : Slot → Option (List ℕ)) (ss : List Slot) → f Empty ≡ None → ((j : ℕ) → slot_at ss j ≡ Empty) → set_in f ss ≡ set.empty
+no_member f ss none all =
+    set.same_set nat_list_cmp_total (set.slice_cmp-IsAntisymmetric set.nat_cmp-IsAntisymmetric) (set_in f ss) set.empty (λ q.
+    both_true _ _ (λ e. let m = (contains_said q f ss none).0 e in absurd (none_some q (sym (ap f (all m.0) ∙ none) ∙ m.1)))
     (λ e. absurd (not_both _ (set.contains-empty (slice_cmp nat_cmp) q) e)))
 
 -- what a look-up tells of the set
-pub told : (t : LineSet) (b : Bytes) (ss : List Slot) (q : List ℕ) (there : Bool) → set_of b ss ≡ t → Decides there (Mem b ss q) → set.contains t q ≡ there
-told t b ss q there is decides =
+pub told : (t : LineSet) (f : Slot → Option (List ℕ)) (ss : List Slot) (q : List ℕ) (there : Bool) → f Empty ≡ None → set_in f ss ≡ t → Decides there (Says f ss q) → set.contains t q ≡ there
+told t f ss q there none is decides =
     sym (ap (λ u. set.contains u q) is)
-    ∙ both_true _ there (λ e. decides.1 ((contains_mem q b ss).0 e)) (λ e. (contains_mem q b ss).1 (decides.0 e))
+    ∙ both_true _ there (λ e. decides.1 ((contains_said q f ss none).0 e)) (λ e. (contains_said q f ss none).1 (decides.0 e))
 
 -- to put what is there changes nothing
 pub put_again : (t : LineSet) (line : List ℕ) → set.contains t line ≡ true → t ≡ set.insert t line

@@ -1,5 +1,5 @@
 -- What the steps make of a set.
-use Rattle.std.proofs.Common.{◌≡◌, ◌≢◌, ℕ, ◌+◌, ◌<◌, ◌≤◌, Bool, true, false, cond, Option, Some, None, List, length, inl, inr, refl, sym, ◌∙◌, ap, subst, arith}
+use Rattle.std.proofs.Common.{◌≡◌, ◌≢◌, ℕ, ◌+◌, ◌<◌, ◌≤◌, Bool, true, false, cond, Option, Some, None, List, [], ◌∷◌, length, inl, inr, refl, sym, ◌∙◌, ap, subst, arith}
 use Rattle.std.proofs.lemmas.Bool.{cases_eq}
 use Rattle.std.specs.Bool.{Decides}
 use Rattle.std.specs.Cmp.Lexicographic.{nat_list_cmp_total}
@@ -14,14 +14,20 @@ use Rattle.far_index.proofs.Words.{full_tag, full_number}
 use Rattle.far_index.proofs.Reaching.{placed_reached, same_reached}
 use Rattle.far_index.proofs.Growth.{moved}
 use Rattle.far_seen.specs.Stored.{Keeps, Put}
-use Rattle.far_seen.specs.Parts.{Bytes, Has, Plain, Sound, line_in, line_at, lines_of}
-use Rattle.far_seen.proofs.Members.{set_of, same_members, one_more, contains_mem}
+use Rattle.far_seen.specs.Lines.{stamp_of}
+use Rattle.far_seen.specs.Parts.{Bytes, Has, Plain, Sound, stamp_at, stamp_in, line_in, line_at, lines_of, set_in}
+use Rattle.far_seen.proofs.Members.{same_members, one_more, contains_said}
 
 -- a slot with a line has a number
 pub full_of : (b : Bytes) (s : Slot) (q : List ℕ) → line_in b s ≡ Some q → (t : ℕ) × (h : ℕ) × (s ≡ Full t h)
 full_of b Empty q e = absurd (cc)
 full_of b Gone q e = absurd (cc)
 full_of b (Full t h) q e = (t, h, refl)
+
+full_stamp : (sizes : ℕ → Option ℕ) (s : Slot) (q : List ℕ) → stamp_in sizes s ≡ Some q → (t : ℕ) × (h : ℕ) × (s ≡ Full t h)
+full_stamp sizes Empty q e = absurd (cc)
+full_stamp sizes Gone q e = absurd (cc)
+full_stamp sizes (Full t h) q e = (t, h, refl)
 
 -- ---- slots that say the same, and the same objects
 pub record Same (p n : Plain) : Type 0 where
@@ -41,14 +47,25 @@ module _ (p n : Plain) (sound : Sound p) (same : Same p n) where
   same_line : (j : ℕ) → line_at n.far.bytes n.slots j ≡ line_at p.far.bytes p.slots j
   same_line j = ap (line_in n.far.bytes) (same.slots j) ∙ same_in j (slot_at p.slots j) refl
 
-  same_set : set_of n.far.bytes n.slots ≡ set_of p.far.bytes p.slots
-  same_set = same_members p.far.bytes n.far.bytes p.slots n.slots (λ q m. (m.0, same_line m.0 ∙ m.1)) (λ q m. (m.0, sym (same_line m.0) ∙ m.1))
+  same_set : set_in (line_in n.far.bytes) n.slots ≡ set_in (line_in p.far.bytes) p.slots
+  same_set = same_members (line_in p.far.bytes) (line_in n.far.bytes) p.slots n.slots refl refl (λ q m. (m.0, same_line m.0 ∙ m.1)) (λ q m. (m.0, sym (same_line m.0) ∙ m.1))
+
+  kept_stamp : (j : ℕ) (s : Slot) → slot_at p.slots j ≡ s → stamp_in n.far.sizes s ≡ stamp_in p.far.sizes s
+  kept_stamp j Empty e = refl
+  kept_stamp j Gone e = refl
+  kept_stamp j (Full t h) e = let m = sound.held j t h e in ap (stamp_at t) (same.far.sizes h m.0 m.1 ∙ sym m.1)
+
+  same_stamp : (j : ℕ) → stamp_in n.far.sizes (slot_at n.slots j) ≡ stamp_in p.far.sizes (slot_at p.slots j)
+  same_stamp j = ap (stamp_in n.far.sizes) (same.slots j) ∙ kept_stamp j (slot_at p.slots j) refl
+
+  same_stamps : set_in (stamp_in n.far.sizes) n.slots ≡ set_in (stamp_in p.far.sizes) p.slots
+  same_stamps = same_members (stamp_in p.far.sizes) (stamp_in n.far.sizes) p.slots n.slots refl refl (λ q m. (m.0, same_stamp m.0 ∙ m.1)) (λ q m. (m.0, sym (same_stamp m.0) ∙ m.1))
 
   same_honest : n.far.honest ≡ p.far.honest
   same_honest = same.far.honest
 
   pub same_lines : lines_of n ≡ lines_of p
-  same_lines = λ i. record { honest = same_honest i; lines = same_set i }
+  same_lines = λ i. record { honest = same_honest i; lines = same_set i; seed = same.seed i; stamps = same_stamps i }
 
   pub same_sound : Sound n
   same_sound = record {
@@ -99,11 +116,35 @@ module _ (p : Plain) (g : Far) (ts : List Slot) (tag number : ℕ) (line : List 
       let full = full_of p.far.bytes (slot_at p.slots j) q e in
       placed.free full.0 full.1 (sym (ap (slot_at p.slots) same) ∙ full.2)
 
-  pub added_set : p.far.honest ≡ true → set_of g.bytes ts ≡ set.insert (set_of p.far.bytes p.slots) line
-  added_set o = one_more p.far.bytes g.bytes p.slots ts line (λ q m. (m.0, other_line m.0 (not_place m.0 q m.1) ∙ m.1)) (placed.place, new_line o) (λ q m.
+  pub added_set : p.far.honest ≡ true → set_in (line_in g.bytes) ts ≡ set.insert (set_in (line_in p.far.bytes) p.slots) line
+  added_set o = one_more (line_in p.far.bytes) (line_in g.bytes) p.slots ts line refl refl (λ q m. (m.0, other_line m.0 (not_place m.0 q m.1) ∙ m.1)) (placed.place, new_line o) (λ q m.
       elim (cases_eq m.0 placed.place) [
         | inl same ↦ inl (some_line q line (line_at g.bytes ts placed.place) (subst (λ k. line_at g.bytes ts k ≡ Some q) same m.1) (new_line o))
         | inr ne ↦ inr (m.0, sym (other_line m.0 ne) ∙ m.1)
+      ])
+
+  old_stamp : (j : ℕ) (s : Slot) → slot_at p.slots j ≡ s → stamp_in g.sizes s ≡ stamp_in p.far.sizes s
+  old_stamp j Empty e = refl
+  old_stamp j Gone e = refl
+  old_stamp j (Full t h) e = let n = sound.held j t h e in ap (stamp_at t) (put.keeps.sizes h n.0 n.1 ∙ sym n.1)
+
+  other_stamp : (j : ℕ) → j ≢ placed.place → stamp_in g.sizes (slot_at ts j) ≡ stamp_in p.far.sizes (slot_at p.slots j)
+  other_stamp j ne = ap (stamp_in g.sizes) (placed.others j ne) ∙ old_stamp j (slot_at p.slots j) refl
+
+  new_stamp : stamp_in g.sizes (slot_at ts placed.place) ≡ Some (stamp_of p.seed line)
+  new_stamp = ap (stamp_in g.sizes) placed.slot ∙ ap (stamp_at tag) put.size ∙ ap (λ t. Some (t ∷ length line ∷ [])) tagged
+
+  stamp_not_place : (j : ℕ) (q : List ℕ) → stamp_in p.far.sizes (slot_at p.slots j) ≡ Some q → j ≢ placed.place
+  stamp_not_place j q e same =
+      let full = full_stamp p.far.sizes (slot_at p.slots j) q e in
+      placed.free full.0 full.1 (sym (ap (slot_at p.slots) same) ∙ full.2)
+
+  -- whether or not the far side is honest
+  pub added_stamps : set_in (stamp_in g.sizes) ts ≡ set.insert (set_in (stamp_in p.far.sizes) p.slots) (stamp_of p.seed line)
+  added_stamps = one_more (stamp_in p.far.sizes) (stamp_in g.sizes) p.slots ts (stamp_of p.seed line) refl refl (λ q m. (m.0, other_stamp m.0 (stamp_not_place m.0 q m.1) ∙ m.1)) (placed.place, new_stamp) (λ q m.
+      elim (cases_eq m.0 placed.place) [
+        | inl same ↦ inl (some_line q (stamp_of p.seed line) (stamp_in g.sizes (slot_at ts placed.place)) (subst (λ k. stamp_in g.sizes (slot_at ts k) ≡ Some q) same m.1) new_stamp)
+        | inr ne ↦ inr (m.0, sym (other_stamp m.0 ne) ∙ m.1)
       ])
 
   at_place : (j t h : ℕ) → j ≡ placed.place → slot_at ts j ≡ Full t h → Full tag number ≡ Full t h
@@ -139,11 +180,11 @@ module _ (p : Plain) (g : Far) (ts : List Slot) (tag number : ℕ) (line : List 
     ]
   ]
 
-  added_count : p.far.honest ≡ true → p.count + 1 ≡ set.len (set_of g.bytes ts)
+  added_count : p.far.honest ≡ true → p.count + 1 ≡ set.len (set_in (line_in g.bytes) ts)
   added_count o =
-      let s = set_of p.far.bytes p.slots in
+      let s = set_in (line_in p.far.bytes) p.slots in
       ap (λ k. k + 1) (sound.counted o)
-      ∙ sym (set.len-insert nat_list_cmp_total s line ∙ ap (λ b. cond b (set.len s) (set.len s + 1)) (is_false (set.contains s line) (Has p.far.bytes p.slots line) (contains_mem line p.far.bytes p.slots) (absent o)))
+      ∙ sym (set.len-insert nat_list_cmp_total s line ∙ ap (λ b. cond b (set.len s) (set.len s + 1)) (is_false (set.contains s line) (Has p.far.bytes p.slots line) (contains_said line (line_in p.far.bytes) p.slots refl) (absent o)))
       ∙ ap set.len (sym (added_set o))
 
   pub added_sound : Sound record { far = g; seed = p.seed; slots = ts; buckets = p.buckets; count = p.count + 1 }
@@ -176,17 +217,20 @@ module _ (p : Plain) (g : Far) (ts : List Slot) (tag number : ℕ) (line : List 
 
 -- ---- an index made anew
 module _ (p : Plain) (slots : List Slot) (buckets : ℕ) (sound : Sound p) (some : 0 < buckets) (grown : Grown buckets (length p.slots) p.slots slots) where
-  grown_set : set_of p.far.bytes slots ≡ set_of p.far.bytes p.slots
-  grown_set = same_members p.far.bytes p.far.bytes p.slots slots
-      (λ q m. let full = full_of p.far.bytes (slot_at p.slots m.0) q m.1 in
+  grown_by : (f : Slot → Option (List ℕ)) → f Empty ≡ None → ((s : Slot) (q : List ℕ) → f s ≡ Some q → (t : ℕ) × (h : ℕ) × (s ≡ Full t h)) → set_in f slots ≡ set_in f p.slots
+  grown_by f none full_by = same_members f f p.slots slots none none
+      (λ q m. let full = full_by (slot_at p.slots m.0) q m.1 in
       let there = moved buckets p.slots slots grown m.0 full.0 full.1 full.2 in
-      (there.0, ap (line_in p.far.bytes) (there.1 ∙ sym full.2) ∙ m.1))
-      (λ q m. let full = full_of p.far.bytes (slot_at slots m.0) q m.1 in
+      (there.0, ap f (there.1 ∙ sym full.2) ∙ m.1))
+      (λ q m. let full = full_by (slot_at slots m.0) q m.1 in
       let there = grown.from m.0 full.0 full.1 full.2 in
-      (there.0, ap (line_in p.far.bytes) (there.2 ∙ sym full.2) ∙ m.1))
+      (there.0, ap f (there.2 ∙ sym full.2) ∙ m.1))
+
+  grown_set : set_in (line_in p.far.bytes) slots ≡ set_in (line_in p.far.bytes) p.slots
+  grown_set = grown_by (line_in p.far.bytes) refl (full_of p.far.bytes)
 
   pub grown_lines : lines_of record { far = p.far; seed = p.seed; slots = slots; buckets = buckets; count = p.count } ≡ lines_of p
-  grown_lines = λ i. record { honest = p.far.honest; lines = grown_set i }
+  grown_lines = λ i. record { honest = p.far.honest; lines = grown_set i; seed = p.seed; stamps = grown_by (stamp_in p.far.sizes) refl (full_stamp p.far.sizes) i }
 
   grown_distinct : p.far.honest ≡ true → (i j : ℕ) (q : List ℕ) → line_at p.far.bytes slots i ≡ Some q → line_at p.far.bytes slots j ≡ Some q → i ≡ j
   grown_distinct o i j q a b =

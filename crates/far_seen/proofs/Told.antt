@@ -10,8 +10,8 @@ use Rattle.far_index.specs.declared.slot.Slot.TheVariants.{Empty, Full}
 use Rattle.far_index.specs.Slots.{slot_at}
 use Rattle.far_index.specs.Tags.{tag_of}
 use Rattle.far_index.proofs.Words.{full_empty}
-use Rattle.far_seen.specs.Parts.{Plain, Sound, line_in, line_at}
-use Rattle.far_seen.proofs.Members.{no_member, set_of}
+use Rattle.far_seen.specs.Parts.{Plain, Sound, stamp_in, line_in, line_at, set_in}
+use Rattle.far_seen.proofs.Members.{no_member}
 use Rattle.far_seen.proofs.Outcomes.{full_of}
 
 empties : (n j : ℕ) → get_or (replicate n Empty) j Empty ≡ Empty
@@ -29,8 +29,11 @@ module _ (p : Plain) (n : ℕ) (some : 0 < p.buckets) (most : p.buckets ≤ n) (
   not_full : (j t h : ℕ) → slot_at p.slots j ≡ Full t h → ⊥
   not_full j t h e = full_empty t h (sym e ∙ all_empty j)
 
-  pub begins_empty : set_of p.far.bytes p.slots ≡ set.empty
-  begins_empty = no_member p.far.bytes p.slots all_empty
+  pub begins_empty : set_in (line_in p.far.bytes) p.slots ≡ set.empty
+  begins_empty = no_member (line_in p.far.bytes) p.slots refl all_empty
+
+  pub begins_stamps : set_in (stamp_in p.far.sizes) p.slots ≡ set.empty
+  begins_stamps = no_member (stamp_in p.far.sizes) p.slots refl all_empty
 
   pub begins_sound : Sound p
   begins_sound = record {

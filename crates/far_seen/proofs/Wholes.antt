@@ -78,3 +78,8 @@ whole_decides xs read line r same d = if_decides r (read ≡ line) (xs ≡ line)
 pub on_ok : {A E : Type 0} (r : Result A E) (P Q : Type 0) → (P → Q) → OnOk r P → OnOk r Q
 on_ok (Ok x) P Q f p = f p
 on_ok (Err e) P Q f p = p
+
+-- what is so, is so if it is the line
+pub so_if : {E : Type 0} (r : Result Bool E) (P : Type 0) → P → IfOk r (λ there. there ≡ true → P)
+so_if (Ok there) P p = λ e. p
+so_if (Err e) P p = tt

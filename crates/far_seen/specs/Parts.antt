@@ -9,7 +9,7 @@ use Rattle.far_index.specs.declared.slot.Slot.TheVariants.{Empty, Gone, Full}
 use Rattle.far_index.specs.Slots.{slot_at, Reached}
 use Rattle.far_index.specs.Tags.{tag_of}
 use Rattle.far_seen.specs.declared.near.Near.{Near}
-use Rattle.far_seen.specs.Lines.{Lines}
+use Rattle.far_seen.specs.Lines.{LineSet, Lines}
 
 -- what objects hold, by their numbers
 abbrev pub Bytes : Type 0
@@ -24,13 +24,31 @@ line_in bytes (Full tag number) = bytes number
 abbrev pub line_at : Bytes → List Slot → ℕ → Option (List ℕ)
 line_at bytes slots i = line_in bytes (slot_at slots i)
 
-abbrev pub lines_in : Bytes → List Slot → List (List ℕ)
-lines_in bytes [] = []
-lines_in bytes (s ∷ ss) = option_to_list (line_in bytes s) ++ lines_in bytes ss
+-- the stamp of a slot's line: the slot's tag, and how long the object is
+abbrev pub stamp_at : ℕ → Option ℕ → Option (List ℕ)
+stamp_at tag None = None
+stamp_at tag (Some n) = Some (tag ∷ n ∷ [])
+
+abbrev pub stamp_in : (ℕ → Option ℕ) → Slot → Option (List ℕ)
+stamp_in sizes Empty = None
+stamp_in sizes Gone = None
+stamp_in sizes (Full tag number) = stamp_at tag (sizes number)
+
+-- what slots say
+abbrev pub all_in : (Slot → Option (List ℕ)) → List Slot → List (List ℕ)
+all_in says [] = []
+all_in says (s ∷ ss) = option_to_list (says s) ++ all_in says ss
+
+abbrev pub set_in : (Slot → Option (List ℕ)) → List Slot → LineSet
+set_in says slots = set.from_list (all_in says slots)
 
 -- some slot has the line
 abbrev pub Has : Bytes → List Slot → List ℕ → Type 0
 Has bytes slots line = (i : ℕ) × (line_at bytes slots i ≡ Some line)
+
+-- some slot has a line of the stamp
+abbrev pub HasStamp : (ℕ → Option ℕ) → List Slot → List ℕ → Type 0
+HasStamp sizes slots stamp = (i : ℕ) × (stamp_in sizes (slot_at slots i) ≡ Some stamp)
 
 pub record Plain : Type 0 where
   pub far : Far
@@ -43,7 +61,7 @@ abbrev pub plain : Far → Near → Plain
 plain far near = record { far = far; seed = near.seed; slots = near.slots; buckets = near.buckets; count = near.count }
 
 abbrev pub lines_of : Plain → Lines
-lines_of p = record { honest = p.far.honest; lines = set.from_list (lines_in p.far.bytes p.slots) }
+lines_of p = record { honest = p.far.honest; lines = set_in (line_in p.far.bytes) p.slots; seed = p.seed; stamps = set_in (stamp_in p.far.sizes) p.slots }
 
 -- each slot's number has an object, and no other slot has that; where the worker is honest, it is a line that has the slot's tag, and no
 -- two lines are the same

@@ -94,6 +94,7 @@ pub fn count_again(counts: &mut Vec<u64>, place: usize) -> Result<(), Refused>
 
 /// Puts a line that didn't come before.
 pub fn enter<O: Objects + Drop>(roll: &mut Roll<O>, tag: u64, line: &[u8]) -> Result<(), Refused>
+    // the line isn't empty, the tag is its own, the roll is as it should be, and doesn't have it
     requires some { IsTag tag }
     requires tag { tag ≡ tag_of roll.old.near.seed line.now }
     requires more { 0 < length line.now }
@@ -101,13 +102,19 @@ pub fn enter<O: Objects + Drop>(roll: &mut Roll<O>, tag: u64, line: &[u8]) -> Re
     requires sound { Sound (plain (all_of (O.far roll.old.store.worker) roll.old.store.longs.items roll.old.numbers.items) roll.old.near) }
     requires listed { Listed roll.old.near.slots roll.old.numbers.items roll.old.counts.items }
     requires absent { (O.far roll.old.store.worker).honest ≡ true → Has (all_of (O.far roll.old.store.worker) roll.old.store.longs.items roll.old.numbers.items).bytes roll.old.near.slots line.now → ⊥ }
+
+    // the roll is as it should be, and the worker as honest as it was
     ensures stored { Stored (O.far roll.new.store.worker) roll.new.store.longs.items }
     ensures sound { Sound (plain (all_of (O.far roll.new.store.worker) roll.new.store.longs.items roll.new.numbers.items) roll.new.near) }
     ensures listed { Listed roll.new.near.slots roll.new.numbers.items roll.new.counts.items }
     ensures honest { (O.far roll.new.store.worker).honest ≡ (O.far roll.old.store.worker).honest }
+
+    // done: a line stands behind the others, which came once, and is this one if the worker is honest; in any case no other has changed
     ensures counts { OnOk result (roll.new.counts.items ≡ roll.old.counts.items ++ 1 ∷ []) }
     ensures before { (k : ℕ) → k < length roll.old.numbers.items → (all_of (O.far roll.new.store.worker) roll.new.store.longs.items roll.new.numbers.items).bytes k ≡ (all_of (O.far roll.old.store.worker) roll.old.store.longs.items roll.old.numbers.items).bytes k }
     ensures last { (O.far roll.old.store.worker).honest ≡ true → OnOk result ((all_of (O.far roll.new.store.worker) roll.new.store.longs.items roll.new.numbers.items).bytes (length roll.old.numbers.items) ≡ Some line.now) }
+
+    // refused for want of memory, or as no object was made: the counts are as they were, and so are all objects
     ensures err { OnErr result (roll.new.counts.items ≡ roll.old.counts.items) }
     ensures left { OnErr result (AsBefore (O.far roll.old.store.worker) (O.far roll.new.store.worker)) }
     ensures why { IfErr result (λ why. (why ≡ Refused.Memory) ⊎ O.unmade why) }

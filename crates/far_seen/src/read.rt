@@ -64,6 +64,7 @@ fn holds_short<O: Objects + Drop>(
     requires tagged { (xs : List ℕ) → (O.far worker.old).honest ≡ true → (O.far worker.old).bytes number ≡ Some xs → tag ≡ tag_of seed.now xs }
     ensures far { O.far worker.new ≡ O.far worker.old }
     ensures holds { (O.far worker.old).honest ≡ true → IfOk result (λ there. Decides there ((O.far worker.old).bytes number ≡ Some line.now)) }
+    ensures long { IfOk result (λ there. there ≡ true → (O.far worker.old).sizes number ≡ Some (length line.now)) }
     ensures why { IfErr result (IsWhyUnread O.unreached (O.far worker.old).honest) }
 {
     let Some(len) = worker.len_of(number) else {
@@ -139,6 +140,7 @@ fn holds_long<O: Objects + Drop>(
     requires tagged { (O.far worker.old).honest ≡ true → (xs : List ℕ) × Holds (O.far worker.old) large.now xs × (tag ≡ tag_of seed.now xs) }
     ensures far { O.far worker.new ≡ O.far worker.old }
     ensures holds { (xs : List ℕ) → (O.far worker.old).honest ≡ true → Holds (O.far worker.old) large.now xs → IfOk result (λ there. Decides there (xs ≡ line.now)) }
+    ensures long { IfOk result (λ there. there ≡ true → large.now.len ≡ length line.now) }
     ensures why { IfErr result (IsWhyUnread O.unreached (O.far worker.old).honest) }
 {
     if large.len() != line.len() {
@@ -173,6 +175,7 @@ pub fn holds<O: Objects + Drop>(
     ensures far { O.far store.new.worker ≡ O.far store.old.worker }
     ensures longs { store.new.longs ≡ store.old.longs }
     ensures holds { (O.far store.old.worker).honest ≡ true → IfOk result (λ there. Decides there ((with_longs (O.far store.old.worker) store.old.longs.items).bytes number ≡ Some line.now)) }
+    ensures long { IfOk result (λ there. there ≡ true → (with_longs (O.far store.old.worker) store.old.longs.items).sizes number ≡ Some (length line.now)) }
     ensures why { IfErr result (IsWhyUnread O.unreached (O.far store.old.worker).honest) }
 {
     if number < LONG {

@@ -1,9 +1,11 @@
 //! The set.
 
-ghost use Rattle.std.specs.Prelude.{◌≡◌, ◌<◌, ◌+◌, ◌/◌, true, not, Err, IfOk, IfErr, OnOk, OnErr, length};
+ghost use Rattle.std.specs.Prelude.{◌≡◌, ◌<◌, ◌+◌, ◌/◌, true, false, not, Err, IfOk, IfErr, OnOk, OnErr, length};
 ghost use Rattle.std.specs.FinSet as set;
+ghost use Rattle.std.specs.Hash.DefaultHasher as sip;
 ghost use Rattle.far_word.specs.declared.refused.Refused.TheVariants.{Length, Memory};
 ghost use Rattle.far_seen.specs.Causes.{IsWhyPut};
+ghost use Rattle.far_seen.specs.Lines.{stamp_of};
 
 use crate::near::Near;
 use crate::parts::{Parts, Store};
@@ -51,6 +53,8 @@ impl<O: Objects + Drop> Seen<O> {
     pub fn new(alloc: Global, worker: O, seed: [u8; 16]) -> Result<Seen<O>, Refused>
         ensures honest { IfOk result (λ s. s.honest ≡ (O.far worker).honest) }
         ensures empty { IfOk result (λ s. s.lines ≡ set.empty) }
+        ensures seed { IfOk result (λ s. s.seed ≡ sip.write sip.initial seed) }
+        ensures stamps { IfOk result (λ s. s.stamps ≡ set.empty) }
         ensures why { IfErr result (λ why. why ≡ Memory) }
     {
         Seen::roomy(alloc, worker, seed, LINES, usize::MAX)
@@ -66,6 +70,8 @@ impl<O: Objects + Drop> Seen<O> {
     ) -> Result<Seen<O>, Refused>
         ensures honest { IfOk result (λ s. s.honest ≡ (O.far worker).honest) }
         ensures empty { IfOk result (λ s. s.lines ≡ set.empty) }
+        ensures seed { IfOk result (λ s. s.seed ≡ sip.write sip.initial seed) }
+        ensures stamps { IfOk result (λ s. s.stamps ≡ set.empty) }
         ensures why { IfErr result (λ why. why ≡ Memory) }
     {
         Seen::roomy(alloc, worker, seed, lines, lines)
@@ -81,6 +87,8 @@ impl<O: Objects + Drop> Seen<O> {
     ) -> Result<Seen<O>, Refused>
         ensures honest { IfOk result (λ s. s.honest ≡ (O.far worker).honest) }
         ensures empty { IfOk result (λ s. s.lines ≡ set.empty) }
+        ensures seed { IfOk result (λ s. s.seed ≡ sip.write sip.initial seed) }
+        ensures stamps { IfOk result (λ s. s.stamps ≡ set.empty) }
         ensures why { IfErr result (λ why. why ≡ Memory) }
     {
         let buckets = homes(lines);
@@ -126,7 +134,7 @@ impl<O: Objects + Drop> Seen<O> {
     }
 
     /// Puts a line. Whether it is the first of its kind. A line that wasn't there costs no far read, unless another one has its tag of 48
-    /// bits and its length.
+    /// bits and its length. Whatever the far side gives, it is called known only if one of its tag and its length was put.
     ///
     /// Refused: [`Refused::Length`] exactly where it has no byte; [`Refused::Memory`] where the index can't grow, or there is no more near
     /// room for long lines; [`Refused::Damaged`] where a line was read that hasn't the tag of what was put, as none of an honest far side; or
@@ -135,6 +143,9 @@ impl<O: Objects + Drop> Seen<O> {
         ensures honest { self.new.honest ≡ self.old.honest }
         ensures first { self.old.honest ≡ true → IfOk result (λ new. new ≡ not (set.contains self.old.lines line.now)) }
         ensures put { self.old.honest ≡ true → OnOk result (self.new.lines ≡ set.insert self.old.lines line.now) }
+        ensures seed { self.new.seed ≡ self.old.seed }
+        ensures known { IfOk result (λ new. new ≡ false → set.contains self.old.stamps (stamp_of self.old.seed line.now) ≡ true) }
+        ensures stamps { OnOk result (self.new.stamps ≡ set.insert self.old.stamps (stamp_of self.old.seed line.now)) }
         ensures refused { OnErr result (self.new ≡ self.old) }
         ensures none { length line.now ≡ 0 → result ≡ Err Length }
         ensures why { IfErr result (IsWhyPut O.unmade O.unreached self.old.honest (length line.now)) }

@@ -8,7 +8,8 @@ ghost use Rattle.far_index.specs.Slots.{IsTag, slot_at};
 ghost use Rattle.far_index.specs.Tags.{tag_of};
 ghost use Rattle.far_large.specs.Parts.{AsBefore};
 ghost use Rattle.far_seen.specs.Causes.{IsWhyUnread};
-ghost use Rattle.far_seen.specs.Parts.{Has, Sound, lines_of, plain};
+ghost use Rattle.far_seen.specs.Lines.{stamp_of};
+ghost use Rattle.far_seen.specs.Parts.{Has, HasStamp, Sound, lines_of, plain};
 ghost use Rattle.far_seen.specs.Stored.{Stored, with_longs};
 
 use crate::near::Near;
@@ -30,6 +31,7 @@ pub fn find<O: Objects + Drop>(parts: &mut Parts<O>, tag: u64, line: &[u8]) -> R
     ensures longs { parts.new.store.longs ≡ parts.old.store.longs }
     ensures near { parts.new.near ≡ parts.old.near }
     ensures there { (O.far parts.old.store.worker).honest ≡ true → IfOk result (λ there. Decides there (Has (with_longs (O.far parts.old.store.worker) parts.old.store.longs.items).bytes parts.old.near.slots line.now)) }
+    ensures known { IfOk result (λ there. there ≡ true → HasStamp (with_longs (O.far parts.old.store.worker) parts.old.store.longs.items).sizes parts.old.near.slots (stamp_of parts.old.near.seed line.now)) }
     ensures why { IfErr result (IsWhyUnread O.unreached (O.far parts.old.store.worker).honest) }
 {
     let home = home_of(parts.near.buckets, tag);
@@ -51,16 +53,27 @@ pub fn find<O: Objects + Drop>(parts: &mut Parts<O>, tag: u64, line: &[u8]) -> R
 
 /// Puts a line that isn't in the set.
 pub fn add<O: Objects + Drop>(parts: &mut Parts<O>, tag: u64, line: &[u8]) -> Result<(), Refused>
+    // the line isn't empty, the tag is its own, and the set is as it should be, and doesn't have it
     requires some { IsTag tag }
     requires tag { tag ≡ tag_of parts.old.near.seed line.now }
     requires more { 0 < length line.now }
     requires stored { Stored (O.far parts.old.store.worker) parts.old.store.longs.items }
     requires sound { Sound (plain (with_longs (O.far parts.old.store.worker) parts.old.store.longs.items) parts.old.near) }
     requires absent { (O.far parts.old.store.worker).honest ≡ true → Has (with_longs (O.far parts.old.store.worker) parts.old.store.longs.items).bytes parts.old.near.slots line.now → ⊥ }
+
+    // the set is as it should be, and the worker as honest as it was
     ensures stored { Stored (O.far parts.new.store.worker) parts.new.store.longs.items }
     ensures sound { Sound (plain (with_longs (O.far parts.new.store.worker) parts.new.store.longs.items) parts.new.near) }
     ensures honest { (O.far parts.new.store.worker).honest ≡ (O.far parts.old.store.worker).honest }
+
+    // done, if the worker is honest: the set has the line beside those that it had
     ensures ok { (O.far parts.old.store.worker).honest ≡ true → OnOk result ((lines_of (plain (with_longs (O.far parts.new.store.worker) parts.new.store.longs.items) parts.new.near)).lines ≡ set.insert (lines_of (plain (with_longs (O.far parts.old.store.worker) parts.old.store.longs.items) parts.old.near)).lines line.now) }
+
+    // of any worker: the seed stays; done, the line's hash and length are there beside the others
+    ensures seed { parts.new.near.seed ≡ parts.old.near.seed }
+    ensures stamps { OnOk result ((lines_of (plain (with_longs (O.far parts.new.store.worker) parts.new.store.longs.items) parts.new.near)).stamps ≡ set.insert (lines_of (plain (with_longs (O.far parts.old.store.worker) parts.old.store.longs.items) parts.old.near)).stamps (stamp_of parts.old.near.seed line.now)) }
+
+    // refused for want of memory, or as no object was made: the lines are as they were, and so are all objects
     ensures err { OnErr result (lines_of (plain (with_longs (O.far parts.new.store.worker) parts.new.store.longs.items) parts.new.near) ≡ lines_of (plain (with_longs (O.far parts.old.store.worker) parts.old.store.longs.items) parts.old.near)) }
     ensures left { OnErr result (AsBefore (O.far parts.old.store.worker) (O.far parts.new.store.worker)) }
     ensures why { IfErr result (λ why. (why ≡ Refused.Memory) ⊎ O.unmade why) }

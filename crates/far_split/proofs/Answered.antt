@@ -9,8 +9,8 @@ use Rattle.far_word.specs.declared.refused.Refused.{Refused as Refusal}
 use Rattle.far_word.specs.Pointer.{read_of}
 use Rattle.far_word.specs.declared.refused.Refused.TheVariants.{AlreadyOpen, Closed, Damaged, Device, Held, Marked, Memory, NoPointer, NoRoom, NotHeld}
 use Rattle.far_word.specs.declared.sizes.TheConstants.{CELLS, LONGEST}
-use Rattle.far_core.specs.state.State.{put}
-use Rattle.far_core.proofs.Put.{put_same}
+use Rattle.far_events.specs.state.State.{put}
+use Rattle.far_events.proofs.Put.{put_same}
 use Rattle.far_heap.specs.BookHad.{BookHad, HasRoom, LacksRoom, NoneFree}
 use Rattle.far_heap.specs.HeapId.{HeapId}
 use Rattle.far_heap.specs.Mine.{Asks, AsksToView, HasLeft as LeavesOne, IsNoObject, IsNoView, IsRefusedNew, IsRefusedView, IsSlow, IsUnbrought, Mine, UsesAll, adopting, asking, bytes_in, closing, drop_refusal, dropping, ds_in, is_length, len_in, opening, owns, uses, viewing, views, with_range, writing}

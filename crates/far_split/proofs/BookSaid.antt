@@ -13,9 +13,9 @@ use Rattle.far_log.specs.declared.row.LogRow.{LogRow}
 use Rattle.far_log.proofs.Members.{here, none_in, split, there}
 use Rattle.far_policy.specs.LeastLive.{GoesBefore, TakesLeast}
 use Rattle.far_policy.specs.Logs.{logs_of}
-use Rattle.far_core.specs.events.Mark.{is_sealed}
+use Rattle.far_events.specs.events.Mark.{is_sealed}
 use Rattle.far_core.specs.laws.Observed.{live_bytes}
-use Rattle.far_core.specs.state.State.{State}
+use Rattle.far_events.specs.state.State.{State}
 use Rattle.far_table.specs.declared.book.BookSeat.{BookSeat}
 use Rattle.far_table.specs.BookSeats.{seat_view}
 use Rattle.far_book.specs.book.Rows.{row_of}

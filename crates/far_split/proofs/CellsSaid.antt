@@ -15,10 +15,10 @@ use Rattle.far_word.specs.Pointer.{read_of}
 use Rattle.far_word.specs.Refused.{refusal_number}
 use Rattle.far_word.specs.Sizes.{size_of}
 use Rattle.far_log.proofs.Members.{here, none_in, split, there}
-use Rattle.far_core.specs.declared.event.Kind.{Kind}
-use Rattle.far_core.specs.declared.event.Kind.TheVariants as kinds
+use Rattle.far_events.specs.declared.event.Kind.{Kind}
+use Rattle.far_events.specs.declared.event.Kind.TheVariants as kinds
 use Rattle.far_core.specs.state.Room.{free_logs, is_free, lowest, room}
-use Rattle.far_core.specs.state.State.{State}
+use Rattle.far_events.specs.state.State.{State}
 use Rattle.far_table.specs.declared.book.BookSeat.{BookSeat}
 use Rattle.far_table.specs.BookSeats.{seat_view}
 use Rattle.far_book.specs.book.Fetching.{far_len}
@@ -30,7 +30,7 @@ use Rattle.far_heap.specs.BookHad.{BookDid, BookHad, HasNowhere, HasRoom, LacksR
 use Rattle.far_heap.specs.Helping.{cell_in, says_far}
 use Rattle.far_heap.specs.HeapId.{HeapId}
 use Rattle.far_heap.specs.Mine.{IsSlow}
-use Rattle.far_text.specs.Command.{Book, Close, Command, Drop, Epoch, Evacuator, Mutator, New, Open, On, Try, Where}
+use Rattle.far_text.specs.Command.{Command, Mutator, New, Open, On, Try}
 use Rattle.far_replay.specs.Alone.{Knows}
 use Rattle.far_alone.specs.Own.{Own}
 use Rattle.far_reply.specs.Reply.{Pointer, Refused, Reply}
@@ -257,16 +257,8 @@ mutators_told_so heap m o (c ∷ cs) (r ∷ rs) (q, knows, tells, later) = (cell
 
 -- ---- memory
 knows_none : (m : ℕ) (o : Own) (c : Command) (q : Own) → Knows m o c (Refused Memory) q → ⊥
-knows_none m o (Mutator k (New len structure)) q knows = knows
-knows_none m o (Mutator k Open) q knows = knows
 knows_none m o (Mutator k (On p how)) q knows = knows
-knows_none m o (Mutator k Close) q knows = knows
-knows_none m o (Mutator k (Where p)) q knows = knows
-knows_none m o (Mutator k (Drop p)) q knows = knows
-knows_none m o (Mutator k (Try p)) q knows = knows
-knows_none m o (Mutator k Epoch) q knows = knows
-knows_none m o (Book inquiry) q knows = knows
-knows_none m o (Evacuator step) q knows = knows
+knows_none m o c q knows = knows
 
 none_told : (honest : Bool) (m : ℕ) (o : Own) (c : Command) (q : Own) → KnowsHere honest m o c (Refused Memory) q → ⊥
 none_told true m o c q (knows, whole) = knows_none m o c q knows

@@ -3,8 +3,8 @@ use Rattle.std.proofs.Common.{◌≡◌, inl, inr, ℕ, ◌+◌, Some, None, Opt
 use Rattle.std.specs.Prelude.{slice_range}
 use Rattle.std.proofs.lemmas.Option.{none-some}
 use Rattle.far_word.specs.declared.refused.Refused.TheVariants.{Closed, Damaged, Device, NoRoom, NotHeld, Range}
-use Rattle.far_core.specs.state.State.{put}
-use Rattle.far_core.proofs.Put.{put_same}
+use Rattle.far_events.specs.state.State.{put}
+use Rattle.far_events.proofs.Put.{put_same}
 use Rattle.far_text.specs.Command.{Mutator, On, Use, Reads, Writes, Views}
 use Rattle.far_replay.specs.Alone.{FitsIn, IsIn, IsOut, PassesEnd}
 use Rattle.far_alone.specs.Own.{Own}

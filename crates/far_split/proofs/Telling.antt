@@ -9,10 +9,10 @@ use Rattle.far_word.specs.Sizes.{bytes_taken, size_of}
 use Rattle.far_log.specs.Spans.{taken_by}
 use Rattle.far_log.specs.declared.span.Span.{Span}
 use Rattle.far_core.specs.laws.Observed.{dead_bytes, live_bytes, unused_bytes}
-use Rattle.far_core.specs.state.Spans.{is_live, spans_of}
-use Rattle.far_core.specs.events.Naming.{is_dropped}
-use Rattle.far_core.specs.state.Law.{Law}
-use Rattle.far_core.specs.state.State.{State}
+use Rattle.far_events.specs.state.Spans.{is_live, spans_of}
+use Rattle.far_events.specs.events.Naming.{is_dropped}
+use Rattle.far_events.specs.state.Law.{Law}
+use Rattle.far_events.specs.state.State.{State}
 use Rattle.far_book.specs.book.Home.{home_of}
 use Rattle.far_book.specs.book.Own.{own_part}
 use Rattle.far_book.specs.book.Rows.{row_of}

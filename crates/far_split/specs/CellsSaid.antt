@@ -8,8 +8,8 @@ use Rattle.far_word.specs.declared.refused.Refused.{Refused as Refusal}
 use Rattle.far_word.specs.declared.refused.Refused.TheVariants.{Marked}
 use Rattle.far_word.specs.Pointer.{read_of}
 use Rattle.far_word.specs.Refused.{refusal_number}
-use Rattle.far_core.specs.declared.event.Kind.TheVariants as kinds
-use Rattle.far_core.specs.state.State.{State}
+use Rattle.far_events.specs.declared.event.Kind.TheVariants as kinds
+use Rattle.far_events.specs.state.State.{State}
 use Rattle.far_device.specs.declared.fault.DeviceFault.TheVariants.{Device}
 use Rattle.far_table.specs.declared.book.BookSeat.{BookSeat}
 use Rattle.far_table.specs.BookSeats.{seat_view}

@@ -3,7 +3,7 @@ use Rattle.std.specs.Prelude.{◌≡◌, ℕ, ◌⊎◌, Bool, true, false, Some
 use Rattle.far_word.specs.Pointer.{read_of}
 use Rattle.far_word.specs.declared.refused.Refused.{Refused as Refusal}
 use Rattle.far_word.specs.declared.refused.Refused.TheVariants.{Damaged, Device, Marked, NoPointer, NoRoom}
-use Rattle.far_core.specs.state.State.{put}
+use Rattle.far_events.specs.state.State.{put}
 use Rattle.far_heap.specs.BookHad.{BookHad, HasRoom, IsAnswered, LacksRoom, NoneFree, Unbrought}
 use Rattle.far_heap.specs.HeapId.{HeapId}
 use Rattle.far_heap.specs.Mine.{IsSlow}

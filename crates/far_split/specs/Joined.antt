@@ -4,8 +4,8 @@ use Rattle.std.specs.Bool.{MatchBool}
 use Rattle.std.specs.List.{AllByRecursion}
 use Rattle.far_word.specs.declared.refused.Refused.{Refused as Refusal}
 use Rattle.far_word.specs.declared.refused.Refused.TheVariants.{Shape, Syntax}
-use Rattle.far_core.specs.declared.shape.Shape.{Shape as Size}
-use Rattle.far_core.specs.state.Shape.{is_shape}
+use Rattle.far_events.specs.declared.shape.Shape.{Shape as Size}
+use Rattle.far_events.specs.state.Shape.{is_shape}
 use Rattle.far_hand.specs.ShapeOf.{shape_of as shape_in}
 use Rattle.far_table.specs.BookSeats.{seat_view}
 use Rattle.far_heap.specs.Blanks.{BlankOf, IsUnused}

@@ -203,6 +203,7 @@ fn run_named<K: HeapName + Send + Sync, R: Threads + Wait + Sync, G: Gate>(
     text: &SplitText,
     gate: &G,
 ) -> Result<SplitOut, SplitFault>
+    // the heap is the one that the name names, without copiers and of eight mutators at most, and nobody has used it; each line is one of its threads'
     requires name { blank.heap ≡ K.heap }
     requires few { K.heap.mutators ≤ 8 }
     requires alone { K.heap.copying ≡ false }
@@ -210,8 +211,12 @@ fn run_named<K: HeapName + Send + Sync, R: Threads + Wait + Sync, G: Gate>(
     requires unused { IsUnused (seat_view blank.book.near) }
     requires order { blank.book.order ≡ [] }
     requires own { (thread : AnyThread) → AreOwn K.heap.mutators thread (lines_in thread text.now) }
+
+    // done: over a device with the flaw that is said, each thread was answered as its own lines may be; and each reply can be printed
     ensures ran { (device : Option SaidDevice) → IsFlawed device blank.book.device → K.heap.honest ≡ is_true device → IfOk result (λ out. RanSo (shape_in (seat_view blank.book.near)) device text.now (as_joined out)) }
     ensures short { IfOk result (λ out. AreShort (as_joined out)) }
+
+    // refused only as a gate refuses a thread one of its lines, or memory was refused
     ensures fault { IfErr result (MayStop (G.refuses gate.now) K.heap.mutators text.now) }
 {
     let Ok((heap, mutators)) = Heap::<K, FarSide>::new(alloc, blank) else {

@@ -17,16 +17,16 @@ use Rattle.far_word.specs.declared.sizes.TheConstants.{CELLS, POINTERS}
 use Rattle.far_word.specs.Pointer.{read_of}
 use Rattle.far_word.specs.Sizes.{words_for}
 use Rattle.far_word.proofs.ByteLaws.{bytes_of-zeros, length-bytes_of}
-use Rattle.far_core.specs.declared.event.Event.TheVariants.{Adopt}
-use Rattle.far_core.specs.declared.event.Reply.TheVariants.{Word}
-use Rattle.far_core.specs.events.Legal.{Legal}
-use Rattle.far_core.specs.events.Step.{after}
-use Rattle.far_core.specs.state.Law.{IsBlank, in_use}
-use Rattle.far_core.specs.state.State.{State, addr, put}
+use Rattle.far_events.specs.declared.event.Event.TheVariants.{Adopt}
+use Rattle.far_events.specs.declared.event.Reply.TheVariants.{Word}
+use Rattle.far_events.specs.events.Legal.{Legal}
+use Rattle.far_events.specs.events.Step.{after}
+use Rattle.far_events.specs.state.Law.{IsBlank, in_use}
+use Rattle.far_events.specs.state.State.{State, addr, put}
 use Rattle.far_core.specs.world.World.{Object, World, Group, FarSide}
 use Rattle.far_core.specs.world.WorldOf.{object_of, world_of}
 use Rattle.far_core.proofs.Owing.{does}
-use Rattle.far_core.proofs.Put.{put_both, put_other, put_same}
+use Rattle.far_events.proofs.Put.{put_both, put_other, put_same}
 use Rattle.far_table.specs.View.{BookView, ObjectView, OwnerView, View, Owner, OtherViews, with_owner}
 use Rattle.far_table.specs.Layout.{cell_at, cell_in}
 use Rattle.far_table.specs.Plays.{Adopted, AdoptTells}

@@ -10,12 +10,12 @@ use Rattle.atomic_table.specs.Table.{opening}
 use Rattle.far_word.specs.declared.pointer.PtrWord.TheVariants.{Free, Near, Far}
 use Rattle.far_word.specs.declared.sizes.TheConstants.{JOBS, LOG_WORDS, MOST_LOGS, MOST_MUTATORS, POINTERS}
 use Rattle.far_word.specs.Pointer.{read_of}
-use Rattle.far_core.specs.declared.event.Kind.TheVariants as kinds
-use Rattle.far_core.specs.events.Advance.{is_among}
-use Rattle.far_core.specs.laws.Ends.{HasNothingPast}
-use Rattle.far_core.specs.state.Law.{BlankLaw, CleanLaw, Law, is_dirty}
-use Rattle.far_core.specs.state.State.{State}
-use Rattle.far_core.proofs.Cells.{unused}
+use Rattle.far_events.specs.declared.event.Kind.TheVariants as kinds
+use Rattle.far_events.specs.events.Advance.{is_among}
+use Rattle.far_events.specs.state.Ends.{HasNothingPast}
+use Rattle.far_events.specs.state.Law.{BlankLaw, CleanLaw, Law, is_dirty}
+use Rattle.far_events.specs.state.State.{State}
+use Rattle.far_events.proofs.Cells.{unused}
 use Rattle.far_core.proofs.Steps.{agrees}
 use Rattle.far_hand.specs.Beside.{uncopied}
 use Rattle.far_hand.specs.Known.{IsKnown, unknown}

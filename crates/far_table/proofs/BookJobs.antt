@@ -14,14 +14,14 @@ use Rattle.far_word.specs.Header.{head_word}
 use Rattle.far_word.specs.Job.{IsJob, job_of, job_word}
 use Rattle.far_word.specs.Pointer.{read_of}
 use Rattle.far_word.proofs.JobLaws.{job_only, job_says}
-use Rattle.far_core.specs.declared.event.Event.{Event}
-use Rattle.far_core.specs.declared.event.Event.TheVariants.{Collect, Offer, SeeJob}
-use Rattle.far_core.specs.declared.event.Reply.TheVariants.{Done, Word}
-use Rattle.far_core.specs.events.Legal.{Legal}
-use Rattle.far_core.specs.events.Offer.{after_offer, offered}
-use Rattle.far_core.specs.events.Step.{after, answer}
-use Rattle.far_core.specs.state.Jobs.{near_place}
-use Rattle.far_core.specs.state.State.{State, addr, put}
+use Rattle.far_events.specs.declared.event.Event.{Event}
+use Rattle.far_events.specs.declared.event.Event.TheVariants.{Collect, Offer, SeeJob}
+use Rattle.far_events.specs.declared.event.Reply.TheVariants.{Done, Word}
+use Rattle.far_events.specs.events.Legal.{Legal}
+use Rattle.far_events.specs.events.Offer.{after_offer, offered}
+use Rattle.far_events.specs.events.Step.{after, answer}
+use Rattle.far_events.specs.state.Jobs.{near_place}
+use Rattle.far_events.specs.state.State.{State, addr, put}
 use Rattle.far_hand.specs.FindsJob.{FindsJob}
 use Rattle.far_hand.specs.Known.{Forgets}
 use Rattle.far_hand.specs.Masked.{AllFind, AllFindJobs, CountsOnRest, masked_word}

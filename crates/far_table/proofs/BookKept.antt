@@ -1,7 +1,7 @@
 -- What an owner's event leaves of the book's ties.
 use Rattle.std.proofs.Common.{◌≡◌, ◌<◌, ◌^◌, ℕ, false, sym, ap, ◌∙◌, subst}
-use Rattle.far_core.specs.state.Law.{Law}
-use Rattle.far_core.specs.state.State.{State}
+use Rattle.far_events.specs.state.Law.{Law}
+use Rattle.far_events.specs.state.State.{State}
 use Rattle.far_hand.specs.Beside.{beside}
 use Rattle.far_hand.specs.Known.{IsKnown}
 use Rattle.far_hand.specs.MayBe.{Shows}

@@ -4,8 +4,8 @@ use Rattle.std.specs.Prelude.{is_some, ◌==◌, ◌||◌}
 use Rattle.std.proofs.lemmas.Bool.{false≢true, cond_both, eqb-true, eqb-false}
 use mathlib.Core.Path.{fun_ext}
 use Rattle.far_word.specs.declared.sizes.TheConstants.{LOG_WORDS}
-use Rattle.far_core.specs.state.State.{put}
-use Rattle.far_core.proofs.Put.{put_both, put_two, put_other}
+use Rattle.far_events.specs.state.State.{put}
+use Rattle.far_events.proofs.Put.{put_both, put_two, put_other}
 use Rattle.far_hand.specs.Known.{Forgets, IsKnown, unknown}
 use Rattle.far_hand.specs.Masked.{masked_word}
 use Rattle.far_table.specs.View.{BookView}

@@ -5,9 +5,9 @@ use mathlib.Core.Option.{some}
 use lib.ListN.{get_elem?}
 use lib.Seq.{set-get_or}
 use Rattle.atomic_table.specs.Table.{Me, keeps, Allows}
-use Rattle.far_core.specs.declared.event.Event.{Event}
-use Rattle.far_core.specs.declared.event.Reply.{Reply}
-use Rattle.far_core.specs.events.Step.{Fits}
+use Rattle.far_events.specs.declared.event.Event.{Event}
+use Rattle.far_events.specs.declared.event.Reply.{Reply}
+use Rattle.far_events.specs.events.Step.{Fits}
 use Rattle.far_hand.specs.Makers.{ByBook, maker}
 use Rattle.far_table.specs.View.{BookView, OtherViews, View, Book, seat_of}
 use Rattle.far_table.specs.BookTells.{BookTells}

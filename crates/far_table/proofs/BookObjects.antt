@@ -4,26 +4,27 @@ use Rattle.std.specs.Prelude.{◌==◌}
 use Rattle.std.proofs.lemmas.Bool.{false≢true, cond_both}
 use Rattle.far_word.specs.Bytes.{packed_word}
 use Rattle.far_word.specs.Pointer.{read_of}
-use Rattle.far_core.specs.declared.event.Event.{Event}
-use Rattle.far_core.specs.declared.event.Event.TheVariants.{ReadEpoch, Open, Pin, Load, Store, Soil, Close, Adopt, Put, Name, See, Mark, Ask, Get, Clear, Advance, Look, Offer, PeekJob, SeeJob, Claim, ReadLength, Read, Write, Finish, Collect}
-use Rattle.far_core.specs.declared.event.Reply.{Reply}
-use Rattle.far_core.specs.declared.event.Reply.TheVariants.{Done, Word}
-use Rattle.far_core.specs.declared.naming.Naming.{Naming}
-use Rattle.far_core.specs.declared.naming.Naming.TheVariants.{Places, Retires, Evicts, Stays, Moves, Fetches}
-use Rattle.far_core.specs.events.Legal.{Legal}
-use Rattle.far_core.specs.events.Name.{change_by}
-use Rattle.far_core.specs.events.Naming.{naming_change}
-use Rattle.far_core.specs.events.Quiet.{has_move}
-use Rattle.far_core.specs.events.Step.{Fits, after, answer, change_of}
-use Rattle.far_core.specs.state.Law.{Law}
-use Rattle.far_core.specs.state.State.{State, put}
-use Rattle.far_core.specs.world.Changes as change
-use Rattle.far_core.specs.world.Changes.{Change, Step, StepOf}
+use Rattle.far_events.specs.declared.event.Event.{Event}
+use Rattle.far_events.specs.declared.event.Event.TheVariants.{ReadEpoch, Open, Pin, Load, Store, Soil, Close, Adopt, Put, Name, See, Mark, Ask, Get, Clear, Advance, Look, Offer, PeekJob, SeeJob, Claim, ReadLength, Read, Write, Finish, Collect}
+use Rattle.far_events.specs.declared.event.Reply.{Reply}
+use Rattle.far_events.specs.declared.event.Reply.TheVariants.{Done, Word}
+use Rattle.far_events.specs.declared.naming.Naming.{Naming}
+use Rattle.far_events.specs.declared.naming.Naming.TheVariants.{Places, Retires, Evicts, Stays, Moves, Fetches}
+use Rattle.far_events.specs.events.Legal.{Legal}
+use Rattle.far_events.specs.events.Name.{change_by}
+use Rattle.far_events.specs.events.Naming.{naming_change}
+use Rattle.far_events.specs.events.Quiet.{has_move}
+use Rattle.far_events.specs.events.Step.{Fits, after, answer, change_of}
+use Rattle.far_events.specs.state.Law.{Law}
+use Rattle.far_events.specs.state.State.{State, put}
+use Rattle.far_events.specs.events.Changes as change
+use Rattle.far_events.specs.events.Changes.{Change}
+use Rattle.far_core.specs.world.Changes.{Step, StepOf}
 use Rattle.far_core.specs.world.World.{Object, World}
 use Rattle.far_core.specs.world.WorldOf.{world_of}
-use Rattle.far_core.proofs.Namings.{naming_only}
+use Rattle.far_events.proofs.Namings.{naming_only}
 use Rattle.far_core.proofs.Owing.{does}
-use Rattle.far_core.proofs.Put.{put_both}
+use Rattle.far_events.proofs.Put.{put_both}
 use Rattle.far_hand.specs.Makers.{ByBook, ByCopier, ByOwner, maker}
 use Rattle.far_table.specs.View.{ObjectView}
 use Rattle.far_table.specs.Rule.{Has}

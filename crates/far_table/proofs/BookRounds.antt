@@ -10,17 +10,17 @@ use Rattle.far_word.specs.declared.sizes.TheConstants.{EPOCH_END, MOST_MUTATORS,
 use Rattle.far_word.specs.Pointer.{read_of}
 use Rattle.far_word.specs.Scope.{scope_of}
 use Rattle.far_word.proofs.PointerLaws.{without_evac_read}
-use Rattle.far_core.specs.declared.event.Event.TheVariants.{Advance, Clear, Look}
-use Rattle.far_core.specs.declared.event.Reply.TheVariants.{Epoch, Word}
-use Rattle.far_core.specs.events.Advance.{is_among}
-use Rattle.far_core.specs.events.Clear.{evac_cleared, round_left}
-use Rattle.far_core.specs.events.Legal.{Legal}
-use Rattle.far_core.specs.events.Look.{shows_clear}
-use Rattle.far_core.specs.events.Naming.{is_dropped}
-use Rattle.far_core.specs.events.Quiet.{has_move}
-use Rattle.far_core.specs.events.Step.{after}
-use Rattle.far_core.specs.state.Law.{is_dirty}
-use Rattle.far_core.specs.state.State.{State}
+use Rattle.far_events.specs.declared.event.Event.TheVariants.{Advance, Clear, Look}
+use Rattle.far_events.specs.declared.event.Reply.TheVariants.{Epoch, Word}
+use Rattle.far_events.specs.events.Advance.{is_among}
+use Rattle.far_events.specs.events.Clear.{evac_cleared, round_left}
+use Rattle.far_events.specs.events.Legal.{Legal}
+use Rattle.far_events.specs.events.Look.{shows_clear}
+use Rattle.far_events.specs.events.Naming.{is_dropped}
+use Rattle.far_events.specs.events.Quiet.{has_move}
+use Rattle.far_events.specs.events.Step.{after}
+use Rattle.far_events.specs.state.Law.{is_dirty}
+use Rattle.far_events.specs.state.State.{State}
 use Rattle.far_hand.specs.Cleared.{cleared}
 use Rattle.far_hand.specs.Known.{Forgets, unknown}
 use Rattle.far_hand.specs.Masked.{AllFind, AllFindJobs, masked_word}

@@ -8,15 +8,15 @@ use Rattle.far_word.specs.declared.pointer.PtrWord.TheVariants.{Near}
 use Rattle.far_word.specs.declared.sizes.TheConstants.{CELLS, POINTERS}
 use Rattle.far_word.specs.Mark.{position}
 use Rattle.far_word.proofs.PointerLaws.{with_mark_read}
-use Rattle.far_core.specs.declared.event.Event.TheVariants.{See, Mark}
-use Rattle.far_core.specs.declared.event.Reply.TheVariants.{Word}
-use Rattle.far_core.specs.events.Legal.{Legal}
-use Rattle.far_core.specs.events.Naming.{is_dropped}
-use Rattle.far_core.specs.events.Quiet.{has_move}
-use Rattle.far_core.specs.events.Step.{after}
-use Rattle.far_core.specs.state.Law.{is_dirty}
-use Rattle.far_core.specs.state.State.{State, put}
-use Rattle.far_core.proofs.Put.{put_both}
+use Rattle.far_events.specs.declared.event.Event.TheVariants.{See, Mark}
+use Rattle.far_events.specs.declared.event.Reply.TheVariants.{Word}
+use Rattle.far_events.specs.events.Legal.{Legal}
+use Rattle.far_events.specs.events.Naming.{is_dropped}
+use Rattle.far_events.specs.events.Quiet.{has_move}
+use Rattle.far_events.specs.events.Step.{after}
+use Rattle.far_events.specs.state.Law.{is_dirty}
+use Rattle.far_events.specs.state.State.{State, put}
+use Rattle.far_events.proofs.Put.{put_both}
 use Rattle.far_hand.specs.Finds.{Finds}
 use Rattle.far_hand.specs.Masked.{AllFind, AllFindJobs, masked_word}
 use Rattle.far_hand.proofs.Counting.{counts_found, finds_named, finds_put}

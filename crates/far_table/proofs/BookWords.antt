@@ -8,13 +8,13 @@ use native.Mathlib.Decide.{ℕ_discrete}
 use Rattle.atomic_table.specs.Table.{Me, step, Allows}
 use Rattle.far_word.specs.declared.sizes.TheConstants.{CELLS, LOG_WORDS}
 use Rattle.far_word.specs.Pointer.{read_of}
-use Rattle.far_core.specs.declared.event.Event.TheVariants.{Get, Put}
-use Rattle.far_core.specs.declared.event.Reply.TheVariants.{Done, Word}
-use Rattle.far_core.specs.events.Advance.{is_among}
-use Rattle.far_core.specs.events.Get.{with_free_log}
-use Rattle.far_core.specs.events.Legal.{Legal}
-use Rattle.far_core.specs.events.Step.{after}
-use Rattle.far_core.specs.state.State.{State, put}
+use Rattle.far_events.specs.declared.event.Event.TheVariants.{Get, Put}
+use Rattle.far_events.specs.declared.event.Reply.TheVariants.{Done, Word}
+use Rattle.far_events.specs.events.Advance.{is_among}
+use Rattle.far_events.specs.events.Get.{with_free_log}
+use Rattle.far_events.specs.events.Legal.{Legal}
+use Rattle.far_events.specs.events.Step.{after}
+use Rattle.far_events.specs.state.State.{State, put}
 use Rattle.far_core.proofs.SpanFrames.{past_tail}
 use Rattle.far_hand.specs.Known.{unknown}
 use Rattle.far_hand.specs.Masked.{AllFind, AllFindJobs, masked, masked_word}

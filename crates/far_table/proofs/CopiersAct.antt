@@ -4,14 +4,14 @@ use Rattle.std.proofs.lemmas.Bool.{false≢true}
 use mathlib.Core.Option.{some}
 use lib.ListN.{get_elem?}
 use Rattle.far_word.specs.declared.sizes.TheConstants.{MOST_COPIERS}
-use Rattle.far_core.specs.declared.event.Event.{Event}
-use Rattle.far_core.specs.declared.event.Event.TheVariants.{PeekJob, Claim, ReadLength, Read, Write, Finish}
-use Rattle.far_core.specs.declared.event.Reply.{Reply}
-use Rattle.far_core.specs.declared.event.Task.{Task}
-use Rattle.far_core.specs.events.Legal.{Legal}
-use Rattle.far_core.specs.events.Step.{Fits, after}
-use Rattle.far_core.specs.state.State.{State}
-use Rattle.far_core.proofs.JobPlaces.{task_lies}
+use Rattle.far_events.specs.declared.event.Event.{Event}
+use Rattle.far_events.specs.declared.event.Event.TheVariants.{PeekJob, Claim, ReadLength, Read, Write, Finish}
+use Rattle.far_events.specs.declared.event.Reply.{Reply}
+use Rattle.far_events.specs.declared.event.Task.{Task}
+use Rattle.far_events.specs.events.Legal.{Legal}
+use Rattle.far_events.specs.events.Step.{Fits, after}
+use Rattle.far_events.specs.state.State.{State}
+use Rattle.far_events.proofs.JobPlaces.{task_lies}
 use Rattle.far_hand.specs.Makers.{ByCopier, maker}
 use Rattle.far_table.specs.BookSeats.{MayBe, is_copiers}
 use Rattle.far_table.specs.Rule.{Facts}

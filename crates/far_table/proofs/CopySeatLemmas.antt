@@ -12,17 +12,17 @@ use Rattle.far_word.specs.declared.sizes.TheConstants.{JOBS, LOG_WORDS, MOST_COP
 use Rattle.far_word.specs.Job.{job_in, job_of, job_sum}
 use Rattle.far_word.specs.Sizes.{words_for}
 use Rattle.far_word.proofs.JobLaws.{job_says}
-use Rattle.far_core.specs.declared.event.Event.{Event}
-use Rattle.far_core.specs.declared.event.Event.TheVariants.{PeekJob, Read, Write}
-use Rattle.far_core.specs.declared.event.Reply.{Reply}
-use Rattle.far_core.specs.declared.event.Reply.TheVariants.{Done, Word}
-use Rattle.far_core.specs.declared.event.Task.{Task}
-use Rattle.far_core.specs.events.Step.{after}
-use Rattle.far_core.specs.state.Jobs.{is_finished, job_said}
-use Rattle.far_core.specs.state.State.{State, addr}
+use Rattle.far_events.specs.declared.event.Event.{Event}
+use Rattle.far_events.specs.declared.event.Event.TheVariants.{PeekJob, Read, Write}
+use Rattle.far_events.specs.declared.event.Reply.{Reply}
+use Rattle.far_events.specs.declared.event.Reply.TheVariants.{Done, Word}
+use Rattle.far_events.specs.declared.event.Task.{Task}
+use Rattle.far_events.specs.events.Step.{after}
+use Rattle.far_events.specs.state.Jobs.{is_finished, job_said}
+use Rattle.far_events.specs.state.State.{State, addr}
 use Rattle.far_core.proofs.JobLaws.{jobs_stand}
-use Rattle.far_core.proofs.JobPlaces.{source_lies, task_lies}
-use Rattle.far_core.proofs.Put.{put_both, put_other, put_same}
+use Rattle.far_events.proofs.JobPlaces.{source_lies, task_lies}
+use Rattle.far_events.proofs.Put.{put_both, put_other, put_same}
 use Rattle.far_table.specs.CopierViews.{word_read_view, word_written_view, words_read, words_written}
 use Rattle.far_table.specs.CopySeats.{CopiedNext, CopyJob, IsCopied, IsJobOf, IsKept, IsTakenBy, Missed, MissedFirst, OnlyLooked, OnlyWord, copied_on, first_at, job_kept}
 use Rattle.far_table.specs.Layout.{table_words, data_at, job_at}

@@ -10,18 +10,17 @@ use Rattle.far_word.specs.declared.job.JobWord.TheVariants.{Finished, Offered, T
 use Rattle.far_word.specs.declared.sizes.TheConstants.{JOBS, LOG_WORDS, MOST_LOGS}
 use Rattle.far_word.specs.Job.{job_in as job_said, job_of, job_word}
 use Rattle.far_word.specs.Sizes.{words_for}
-use Rattle.far_core.specs.declared.event.Event.TheVariants.{PeekJob, Claim, ReadLength, Read, Write, Finish}
-use Rattle.far_core.specs.declared.event.Reply.TheVariants.{Done, Word}
-use Rattle.far_core.specs.declared.event.Task.{Task}
-use Rattle.far_core.specs.events.Claim.{after_claim, offered_in}
-use Rattle.far_core.specs.events.Legal.{Legal}
-use Rattle.far_core.specs.events.Tasks.{AllWritten}
-use Rattle.far_core.specs.state.Jobs.{job_words}
-use Rattle.far_core.specs.state.Law.{head_len}
-use Rattle.far_core.specs.state.State.{State, addr, put}
-use Rattle.far_core.proofs.Bounds.{log_inside}
-use Rattle.far_core.proofs.JobPlaces.{job_bounds, source_lies, task_lies}
-use Rattle.far_core.proofs.KeepJobs.{task_at}
+use Rattle.far_events.specs.declared.event.Event.TheVariants.{PeekJob, Claim, ReadLength, Read, Write, Finish}
+use Rattle.far_events.specs.declared.event.Reply.TheVariants.{Done, Word}
+use Rattle.far_events.specs.declared.event.Task.{Task}
+use Rattle.far_events.specs.events.Claim.{after_claim, offered_in}
+use Rattle.far_events.specs.events.Legal.{Legal}
+use Rattle.far_events.specs.events.Tasks.{AllWritten}
+use Rattle.far_events.specs.state.Jobs.{job_words}
+use Rattle.far_events.specs.state.Law.{head_len}
+use Rattle.far_events.specs.state.State.{State, addr, put}
+use Rattle.far_events.proofs.Bounds.{log_inside}
+use Rattle.far_events.proofs.JobPlaces.{job_bounds, source_lies, task_lies, task_at}
 use Rattle.far_table.specs.View.{BookView, CopierView, OtherViews, View, Copier, with_copier}
 use Rattle.far_table.specs.CopierPlays.{JobClaimed, JobFinished, JobPeeked, LengthRead, SourceRead, TargetWritten}
 use Rattle.far_table.specs.CopierViews.{claimed_view, finished_view, measured_view, peeked_view, word_read_view, word_written_view, words_read, words_written}

@@ -5,7 +5,7 @@ use mathlib.Core.Option.{some}
 use mathlib.Core.List.{map-append}
 use lib.ListN.{get_elem?}
 use Rattle.atomic_table.specs.Table.{State as Table, Splits}
-use Rattle.far_core.specs.state.State.{State}
+use Rattle.far_events.specs.state.State.{State}
 use Rattle.far_table.specs.View.{BookView, Role, View, Book, Copier, Owner, AsCopier, AsOwner, seat_of}
 use Rattle.far_table.specs.First.{first_book, first_copier, first_owner, first_owners, unseated, waiting}
 use Rattle.far_table.specs.Rule.{Facts, Running}

@@ -21,15 +21,15 @@ use Rattle.far_word.specs.Scope.{scope_of}
 use Rattle.far_word.specs.Sizes.{words_for}
 use Rattle.far_word.proofs.PointerLaws.{read_says}
 use Rattle.far_word.proofs.ScopeLaws.{scope_says}
-use Rattle.far_core.specs.events.Open.{scope_word_of}
-use Rattle.far_core.specs.state.Law.{Law, in_use}
-use Rattle.far_core.specs.state.State.{State, addr}
+use Rattle.far_events.specs.events.Open.{scope_word_of}
+use Rattle.far_events.specs.state.Law.{Law, in_use}
+use Rattle.far_events.specs.state.State.{State, addr}
 use Rattle.far_core.specs.world.World.{FarSide, Group, Object}
 use Rattle.far_core.specs.world.WorldOf.{object_of, world_of}
-use Rattle.far_core.proofs.Bounds.{near_inside}
-use Rattle.far_core.proofs.Cells.{held_near}
+use Rattle.far_events.proofs.Bounds.{near_inside}
+use Rattle.far_events.proofs.Cells.{held_near}
 use Rattle.far_core.proofs.ObjectFacts.{object_agrees}
-use Rattle.far_core.proofs.Put.{put_both}
+use Rattle.far_events.proofs.Put.{put_both}
 use Rattle.far_table.specs.View.{CopierView, ObjectView, OwnerView, idle}
 use Rattle.far_table.specs.First.{first_copier, first_copiers, first_owner, first_owners, open_epoch, rows_from, seen, seen_object}
 use Rattle.far_table.specs.Rows.{over}

@@ -12,12 +12,12 @@ use Rattle.far_word.specs.declared.sizes.TheConstants.{CELLS, LOG_WORDS, MOST_LO
 use Rattle.far_word.specs.Pointer.{read_of}
 use Rattle.far_word.specs.Sizes.{words_for}
 use Rattle.far_word.proofs.PointerLaws.{read_says}
-use Rattle.far_core.specs.events.Pin.{place_to_view}
-use Rattle.far_core.specs.state.Law.{held_place}
-use Rattle.far_core.specs.state.State.{State, addr}
+use Rattle.far_events.specs.events.Pin.{place_to_view}
+use Rattle.far_events.specs.state.Law.{held_place}
+use Rattle.far_events.specs.state.State.{State, addr}
 use Rattle.far_core.specs.world.World.{Object}
-use Rattle.far_core.proofs.Bounds.{near_inside}
-use Rattle.far_core.proofs.Cells.{held_near}
+use Rattle.far_events.proofs.Bounds.{near_inside}
+use Rattle.far_events.proofs.Cells.{held_near}
 use Rattle.far_core.proofs.ObjectFacts.{object_agrees}
 use Rattle.far_hand.proofs.Masking.{lies, one_owner}
 use Rattle.far_table.specs.View.{BookView, ObjectView, OwnerView, OtherViews}

@@ -6,9 +6,9 @@ use lib.ListN.{get_elem?}
 use lib.Seq.{map-set, set-get_or}
 use Rattle.atomic_table.specs.Table.{State, Me, keeps, Allows}
 use Rattle.atomic_table.proofs.Lists.{at_longer}
-use Rattle.far_core.specs.declared.event.Event.{Event}
-use Rattle.far_core.specs.declared.event.Reply.{Reply}
-use Rattle.far_core.specs.events.Step.{Fits}
+use Rattle.far_events.specs.declared.event.Event.{Event}
+use Rattle.far_events.specs.declared.event.Reply.{Reply}
+use Rattle.far_events.specs.events.Step.{Fits}
 use Rattle.far_hand.specs.Makers.{ByCopier, ByOwner, maker}
 use Rattle.far_table.specs.View.{BookView, CopierView, OtherViews, OwnerView, Role, View, Book, Owner, Copier, AsOwner, AsCopier, roles, seat_of, with_copier, with_owner}
 use Rattle.far_table.specs.Rule.{Facts, Running}

@@ -9,13 +9,13 @@ use Rattle.far_word.specs.Bytes.{packed_word}
 use Rattle.far_word.specs.declared.pointer.Place.{Place}
 use Rattle.far_word.specs.declared.sizes.TheConstants.{CELLS}
 use Rattle.far_word.specs.Sizes.{words_for}
-use Rattle.far_core.specs.declared.event.Event.TheVariants.{Load}
-use Rattle.far_core.specs.declared.event.Reply.TheVariants.{Word}
-use Rattle.far_core.specs.events.Legal.{Legal, HoldsWord}
-use Rattle.far_core.specs.events.Step.{data_word}
-use Rattle.far_core.specs.state.State.{State, addr}
+use Rattle.far_events.specs.declared.event.Event.TheVariants.{Load}
+use Rattle.far_events.specs.declared.event.Reply.TheVariants.{Word}
+use Rattle.far_events.specs.events.Legal.{Legal, HoldsWord}
+use Rattle.far_events.specs.events.Step.{data_word}
+use Rattle.far_events.specs.state.State.{State, addr}
 use Rattle.far_core.specs.world.World.{Object}
-use Rattle.far_core.proofs.Calls.{word_behind}
+use Rattle.far_events.proofs.Calls.{word_behind}
 use Rattle.far_core.proofs.Owing.{does}
 use Rattle.far_table.specs.View.{BookView, OwnerView, View, Owner, OtherViews, with_owner}
 use Rattle.far_table.specs.Layout.{LOGS_AT, table_words, data_at, word_in}

@@ -3,10 +3,10 @@ use Rattle.std.proofs.Common.{◌≡◌, ◌<◌, ◌≤◌, ◌^◌, ℕ, Bool,
 use Rattle.std.specs.Prelude.{is_some, ◌||◌}
 use Rattle.std.proofs.lemmas.Bool.{false≢true, cond_both, ltb-true, ltb-false}
 use mathlib.Core.Path.{fun_ext}
-use Rattle.far_core.specs.declared.event.Event.{Event}
-use Rattle.far_core.specs.events.Legal.{Legal}
-use Rattle.far_core.specs.state.Law.{Law}
-use Rattle.far_core.specs.state.State.{State}
+use Rattle.far_events.specs.declared.event.Event.{Event}
+use Rattle.far_events.specs.events.Legal.{Legal}
+use Rattle.far_events.specs.state.Law.{Law}
+use Rattle.far_events.specs.state.State.{State}
 use Rattle.far_hand.specs.Known.{IsKnown, unknown}
 use Rattle.far_hand.specs.Masked.{masked, masked_word, AllFind, AllFindJobs, CountsOnRest}
 use Rattle.far_hand.specs.Quiet.{RestsAt}

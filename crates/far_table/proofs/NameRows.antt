@@ -5,8 +5,8 @@ use Rattle.std.proofs.lemmas.Bool.{cases_lt, le-ltb, lt-ltb, ltb-true}
 use mathlib.Core.Path.{fun_ext}
 use Rattle.far_word.specs.declared.pointer.Place.{Place}
 use Rattle.far_word.specs.Sizes.{words_for}
-use Rattle.far_core.specs.events.namings.Evicts.{with_kept}
-use Rattle.far_core.specs.state.State.{addr, put}
+use Rattle.far_events.specs.events.namings.Evicts.{with_kept}
+use Rattle.far_events.specs.state.State.{addr, put}
 use Rattle.far_table.specs.View.{BookView}
 use Rattle.far_table.specs.First.{rows_from}
 use Rattle.far_table.specs.NameViews.{stored_rows}

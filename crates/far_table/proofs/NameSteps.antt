@@ -14,22 +14,22 @@ use Rattle.far_word.specs.declared.sizes.TheConstants.{POINTERS}
 use Rattle.far_word.specs.Header.{head_word}
 use Rattle.far_word.specs.Pointer.{read_of}
 use Rattle.far_word.specs.Sizes.{words_for}
-use Rattle.far_core.specs.declared.event.Event.TheVariants.{Name}
-use Rattle.far_core.specs.declared.event.Reply.TheVariants.{Done, Word}
-use Rattle.far_core.specs.declared.naming.Naming.{Naming}
-use Rattle.far_core.specs.declared.naming.Naming.TheVariants.{Places, Retires, Evicts, Stays, Moves, Fetches}
-use Rattle.far_core.specs.events.Copied.{WasCopied, copied_job}
-use Rattle.far_core.specs.events.Legal.{Legal}
-use Rattle.far_core.specs.events.Naming.{IsNaming, is_dropped, naming_of, naming_row}
-use Rattle.far_core.specs.events.namings.Moves.{MayMove, after_move}
-use Rattle.far_core.specs.events.Quiet.{has_move}
-use Rattle.far_core.specs.events.Step.{after}
-use Rattle.far_core.specs.state.Law.{IsStored, Law, held_place, is_dirty}
-use Rattle.far_core.specs.state.State.{State, addr, put}
-use Rattle.far_core.proofs.Copied.{copied_test, moves_quiet}
-use Rattle.far_core.proofs.Namings.{naming_only}
-use Rattle.far_core.proofs.Put.{put_both, put_other, put_same}
-use Rattle.far_core.proofs.Quieting.{quiet_unheld}
+use Rattle.far_events.specs.declared.event.Event.TheVariants.{Name}
+use Rattle.far_events.specs.declared.event.Reply.TheVariants.{Done, Word}
+use Rattle.far_events.specs.declared.naming.Naming.{Naming}
+use Rattle.far_events.specs.declared.naming.Naming.TheVariants.{Places, Retires, Evicts, Stays, Moves, Fetches}
+use Rattle.far_events.specs.events.Copied.{WasCopied, copied_job}
+use Rattle.far_events.specs.events.Legal.{Legal}
+use Rattle.far_events.specs.events.Naming.{IsNaming, is_dropped, naming_of, naming_row}
+use Rattle.far_events.specs.events.namings.Moves.{MayMove, after_move}
+use Rattle.far_events.specs.events.Quiet.{has_move}
+use Rattle.far_events.specs.events.Step.{after}
+use Rattle.far_events.specs.state.Law.{IsStored, Law, held_place, is_dirty}
+use Rattle.far_events.specs.state.State.{State, addr, put}
+use Rattle.far_events.proofs.Copied.{copied_test, moves_quiet}
+use Rattle.far_events.proofs.Namings.{naming_only}
+use Rattle.far_events.proofs.Put.{put_both, put_other, put_same}
+use Rattle.far_events.proofs.Quieting.{quiet_unheld}
 use Rattle.far_hand.specs.Known.{Forgets, KnowsLeaving, StoresLeaving, unknown}
 use Rattle.far_hand.specs.Masked.{AllFind, AllFindJobs, masked, masked_word}
 use Rattle.far_hand.proofs.Counting.{counts_none}

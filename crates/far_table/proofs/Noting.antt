@@ -5,8 +5,8 @@ use mathlib.Core.Option.{some}
 use lib.ListN.{get_elem?, length-set}
 use Rattle.atomic_table.proofs.Lists.{at_set, set_here}
 use Rattle.far_core.specs.state.Agrees.{Agrees}
-use Rattle.far_core.specs.state.Law.{Law}
-use Rattle.far_core.specs.state.State.{State}
+use Rattle.far_events.specs.state.Law.{Law}
+use Rattle.far_events.specs.state.State.{State}
 use Rattle.far_table.specs.View.{BookView, OtherViews, OwnerView, with_owner}
 use Rattle.far_table.specs.Rule.{BookTies, Facts, OwnerTies}
 use Rattle.far_table.specs.StateOf.{state_of}

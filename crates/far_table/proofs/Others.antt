@@ -5,21 +5,21 @@ use Rattle.std.proofs.lemmas.Bool.{false≢true}
 use Rattle.far_word.specs.declared.mark.Mark.TheVariants.{Hot, Evac, Moved, Dropped, Dirty}
 use Rattle.far_word.specs.declared.pointer.Place.{Place}
 use Rattle.far_word.specs.declared.sizes.TheConstants.{CELLS}
-use Rattle.far_core.specs.declared.event.Event.{Event}
-use Rattle.far_core.specs.declared.event.Event.TheVariants.{ReadEpoch, Open, Pin, Load, Store, Soil, Close, Adopt, Ask, PeekJob, Claim, ReadLength, Read, Write, Finish}
-use Rattle.far_core.specs.declared.event.Reply.TheVariants.{Done, Word}
-use Rattle.far_core.specs.declared.event.Task.{Task}
-use Rattle.far_core.specs.events.Finish.{job_spot}
-use Rattle.far_core.specs.events.Legal.{Legal}
-use Rattle.far_core.specs.events.Step.{Fits, after, pin_answer, touches}
-use Rattle.far_core.specs.events.Touch.{CellAt, ScopeAt}
-use Rattle.far_core.specs.state.Law.{Law}
-use Rattle.far_core.specs.state.State.{State}
+use Rattle.far_events.specs.declared.event.Event.{Event}
+use Rattle.far_events.specs.declared.event.Event.TheVariants.{ReadEpoch, Open, Pin, Load, Store, Soil, Close, Adopt, Ask, PeekJob, Claim, ReadLength, Read, Write, Finish}
+use Rattle.far_events.specs.declared.event.Reply.TheVariants.{Done, Word}
+use Rattle.far_events.specs.declared.event.Task.{Task}
+use Rattle.far_events.specs.events.Finish.{job_spot}
+use Rattle.far_events.specs.events.Legal.{Legal}
+use Rattle.far_events.specs.events.Step.{Fits, after, pin_answer, touches}
+use Rattle.far_events.specs.events.Touch.{CellAt, ScopeAt}
+use Rattle.far_events.specs.state.Law.{Law}
+use Rattle.far_events.specs.state.State.{State}
 use Rattle.far_core.specs.world.Happens.{Happens}
 use Rattle.far_core.specs.world.World.{World}
 use Rattle.far_core.specs.world.WorldOf.{world_of}
 use Rattle.far_core.proofs.Owing.{does, owed}
-use Rattle.far_core.proofs.Put.{put_other}
+use Rattle.far_events.proofs.Put.{put_other}
 use Rattle.far_hand.specs.Makers.{Maker, ByBook, ByCopier, ByOwner, maker}
 
 pub record KeepsOwner (s t : State) (j : ℕ) : Type 0 where

@@ -6,8 +6,8 @@ use mathlib.Core.Path.{fun_ext}
 use native.Mathlib.Decide.{ℕ_discrete}
 use lib.ListN.{get_elem?}
 use Rattle.far_word.specs.declared.sizes.TheConstants.{CELLS}
-use Rattle.far_core.specs.state.State.{put}
-use Rattle.far_core.proofs.Put.{put_both, put_other, put_two}
+use Rattle.far_events.specs.state.State.{put}
+use Rattle.far_events.proofs.Put.{put_both, put_other, put_two}
 use Rattle.far_table.specs.View.{OwnerView}
 use Rattle.far_table.specs.StateOf.{remembered_by}
 use Rattle.far_table.specs.Views.{nobody, owner_at}

@@ -10,14 +10,14 @@ use Rattle.far_word.specs.declared.pointer.Place.{Place}
 use Rattle.far_word.specs.declared.pointer.PtrWord.TheVariants.{Near}
 use Rattle.far_word.specs.declared.sizes.TheConstants.{CELLS, POINTERS}
 use Rattle.far_word.specs.Sizes.{words_for}
-use Rattle.far_core.specs.declared.event.Event.{Event}
-use Rattle.far_core.specs.declared.event.Event.TheVariants.{ReadEpoch, Open, Pin, Load, Store, Soil, Close, Adopt, Ask}
-use Rattle.far_core.specs.declared.event.Reply.{Reply}
-use Rattle.far_core.specs.events.Legal.{Legal}
-use Rattle.far_core.specs.events.Open.{scope_word_of}
-use Rattle.far_core.specs.events.Owners.{IsClosed, IsOpen}
-use Rattle.far_core.specs.events.Step.{Fits, after}
-use Rattle.far_core.specs.state.State.{State}
+use Rattle.far_events.specs.declared.event.Event.{Event}
+use Rattle.far_events.specs.declared.event.Event.TheVariants.{ReadEpoch, Open, Pin, Load, Store, Soil, Close, Adopt, Ask}
+use Rattle.far_events.specs.declared.event.Reply.{Reply}
+use Rattle.far_events.specs.events.Legal.{Legal}
+use Rattle.far_events.specs.events.Open.{scope_word_of}
+use Rattle.far_events.specs.events.Owners.{IsClosed, IsOpen}
+use Rattle.far_events.specs.events.Step.{Fits, after}
+use Rattle.far_events.specs.state.State.{State}
 use Rattle.far_hand.specs.Makers.{ByOwner, is_owners, maker}
 use Rattle.far_table.specs.BookSeats.{MayBe}
 use Rattle.far_table.specs.Rule.{Facts}

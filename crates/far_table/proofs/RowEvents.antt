@@ -8,8 +8,8 @@ use Rattle.byteorder.specs.Endian.{little_number}
 use Rattle.far_word.specs.Bytes.{bytes_of, packed_word, with_word}
 use Rattle.far_word.proofs.ByteLaws.{bytes_of-get, packs_back, read_other, with_word-get}
 use Rattle.far_word.proofs.WordBytes.{length-rest, read_word, write_whole}
-use Rattle.far_core.specs.declared.event.Event.TheVariants.{Load, Store}
-use Rattle.far_core.specs.declared.event.Reply.TheVariants.{Done, Word}
+use Rattle.far_events.specs.declared.event.Event.TheVariants.{Load, Store}
+use Rattle.far_events.specs.declared.event.Reply.TheVariants.{Done, Word}
 use Rattle.far_table.specs.View.{OwnerView}
 use Rattle.far_table.specs.RowTells.{LoadedEach, StoredEach, row_view}
 use Rattle.far_table.specs.Tells.{OwnerMade}

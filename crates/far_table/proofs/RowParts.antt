@@ -9,8 +9,8 @@ use Rattle.atomic_table.specs.Seated.{TableId}
 use Rattle.byteorder.specs.Endian.{little_number}
 use Rattle.far_word.specs.declared.sizes.TheConstants.{LOG_WORDS, MOST_LOGS}
 use Rattle.far_word.specs.Bytes.{packed_word}
-use Rattle.far_core.specs.declared.event.Event.TheVariants.{Load, Store}
-use Rattle.far_core.specs.declared.event.Reply.TheVariants.{Done, Word}
+use Rattle.far_events.specs.declared.event.Event.TheVariants.{Load, Store}
+use Rattle.far_events.specs.declared.event.Reply.TheVariants.{Done, Word}
 use Rattle.far_table.specs.Layout.{table_words}
 use Rattle.far_table.specs.Ranges.{Wrote}
 use Rattle.far_table.specs.SeatRows.{HoldsRow, RowLoaded, RowStored, SoiledRow}

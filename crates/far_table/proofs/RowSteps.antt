@@ -6,8 +6,8 @@ use Rattle.atomic_table.specs.Seated.{TableId}
 use Rattle.atomic_table.specs.Table.{Me, step, Allows}
 use Rattle.far_word.specs.declared.sizes.TheConstants.{CELLS}
 use Rattle.far_word.specs.Sizes.{words_for}
-use Rattle.far_core.specs.declared.event.Event.TheVariants.{Load, Store}
-use Rattle.far_core.specs.declared.event.Reply.TheVariants.{Done, Word}
+use Rattle.far_events.specs.declared.event.Event.TheVariants.{Load, Store}
+use Rattle.far_events.specs.declared.event.Reply.TheVariants.{Done, Word}
 use Rattle.far_table.specs.Layout.{LOGS_AT, table_words}
 use Rattle.far_table.specs.Plays.{Loaded, Stored}
 use Rattle.far_table.specs.Rule.{Running}

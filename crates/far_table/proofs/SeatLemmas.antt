@@ -9,23 +9,23 @@ use Rattle.far_word.specs.declared.mark.Mark.TheVariants.{Hot, Evac, Moved, Drop
 use Rattle.far_word.specs.declared.pointer.Place.{Place}
 use Rattle.far_word.specs.declared.pointer.PtrWord.{PtrWord}
 use Rattle.far_word.specs.Pointer.{read_of, view_place}
-use Rattle.far_core.specs.declared.event.Reply.TheVariants.{Held, Word}
-use Rattle.far_core.specs.events.Pin.{place_to_view, pin_answer}
-use Rattle.far_core.proofs.Put.{put_both, put_other, put_same}
+use Rattle.far_events.specs.declared.event.Reply.TheVariants.{Held, Word}
+use Rattle.far_events.specs.events.Pin.{place_to_view, pin_answer}
+use Rattle.far_events.proofs.Put.{put_both, put_other, put_same}
 use Rattle.atomic_table.specs.Seated.{TableId}
 use Rattle.far_word.specs.declared.sizes.TheConstants.{CELLS, EPOCH_END, JOBS, LOG_WORDS, MOST_LOGS, MOST_MUTATORS}
 use Rattle.far_word.specs.Sizes.{words_for}
-use Rattle.far_core.specs.declared.event.Event.{Event}
-use Rattle.far_core.specs.declared.event.Reply.{Reply}
-use Rattle.far_core.specs.state.State.{addr}
+use Rattle.far_events.specs.declared.event.Event.{Event}
+use Rattle.far_events.specs.declared.event.Reply.{Reply}
+use Rattle.far_events.specs.state.State.{addr}
 use Rattle.far_table.specs.View.{ObjectView, OwnerView, View, Owner}
 use Rattle.far_table.specs.Tells.{HasState, OwnerMade, OwnerRefused, Tells, owner_of}
 use Rattle.far_table.specs.Views.{adopted_view, asked_view, fresh, held_at, held_view, len_of, noted_view, object_at, pinned_view, stored_view, warmed_view, with_place, with_word}
-use Rattle.far_core.specs.events.Ask.{is_request}
-use Rattle.far_core.specs.events.Open.{scope_word_of}
+use Rattle.far_events.specs.events.Ask.{is_request}
+use Rattle.far_events.specs.events.Open.{scope_word_of}
 use Rattle.far_table.specs.Layout.{LOGS_AT, table_words, job_at}
 use Rattle.far_table.specs.Plays.{AdoptTells, number_of}
-use Rattle.far_core.specs.declared.event.Event.TheVariants.{Adopt}
+use Rattle.far_events.specs.declared.event.Event.TheVariants.{Adopt}
 use Rattle.far_table.specs.Seats.{HasPlace, HasPlaces, Remembers}
 use Rattle.far_table.proofs.Noting.{noted_there}
 use Rattle.far_table.proofs.ViewedLogs.{left_there, logs_kept}

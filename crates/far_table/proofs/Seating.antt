@@ -7,10 +7,10 @@ use Rattle.std.proofs.lemmas.List.FromFn.{get_or-map-range_with_len, length-map-
 use Rattle.atomic_table.specs.Seated.{TableId}
 use Rattle.far_word.specs.declared.pointer.Place.{Place}
 use Rattle.far_word.specs.declared.sizes.TheConstants.{CELLS, LOG_WORDS, MOST_COPIERS, MOST_LOGS}
-use Rattle.far_core.specs.state.Law.{Law}
-use Rattle.far_core.specs.state.State.{State, addr}
+use Rattle.far_events.specs.state.Law.{Law}
+use Rattle.far_events.specs.state.State.{State, addr}
 use Rattle.far_table.specs.View.{BookView, OwnerView, View, Book, Owner}
-use Rattle.far_core.specs.laws.Ends.{HasNothingPast}
+use Rattle.far_events.specs.state.Ends.{HasNothingPast}
 use Rattle.far_table.specs.First.{first_book, first_copier, first_copiers, first_others, first_owner, first_owners, waiting}
 use Rattle.far_table.specs.Layout.{table_words}
 use Rattle.far_table.specs.Rule.{Facts}

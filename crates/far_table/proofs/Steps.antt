@@ -6,15 +6,15 @@ use mathlib.Core.Option.{some, none}
 use lib.ListN.{get_elem?}
 use Rattle.atomic_table.specs.Table.{Me, step, Allows}
 use Rattle.far_word.specs.declared.sizes.TheConstants.{CELLS, MOST_MUTATORS}
-use Rattle.far_core.specs.declared.event.Event.TheVariants.{ReadEpoch, Open, Close}
-use Rattle.far_core.specs.declared.event.Reply.TheVariants.{Done, Epoch}
-use Rattle.far_core.specs.events.Legal.{Legal, IsClosed, IsOpen}
-use Rattle.far_core.specs.events.Open.{scope_word_of}
-use Rattle.far_core.specs.events.Step.{after}
-use Rattle.far_core.specs.state.State.{put}
+use Rattle.far_events.specs.declared.event.Event.TheVariants.{ReadEpoch, Open, Close}
+use Rattle.far_events.specs.declared.event.Reply.TheVariants.{Done, Epoch}
+use Rattle.far_events.specs.events.Legal.{Legal, IsClosed, IsOpen}
+use Rattle.far_events.specs.events.Open.{scope_word_of}
+use Rattle.far_events.specs.events.Step.{after}
+use Rattle.far_events.specs.state.State.{put}
 use Rattle.far_core.specs.world.World.{World}
 use Rattle.far_core.proofs.Owing.{does}
-use Rattle.far_core.proofs.Put.{put_same}
+use Rattle.far_events.proofs.Put.{put_same}
 use Rattle.far_table.specs.View.{BookView, OwnerView, View, Owner, OtherViews, with_owner}
 use Rattle.far_table.specs.Layout.{EPOCH_AT, scope_at, epoch_in, scope_in, cell_in, job_in, word_in}
 use Rattle.far_table.specs.Plays.{EpochRead, Opened, Closed}

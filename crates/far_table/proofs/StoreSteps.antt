@@ -11,18 +11,18 @@ use Rattle.far_word.specs.Bytes.{packed_word}
 use Rattle.far_word.specs.declared.pointer.Place.{Place}
 use Rattle.far_word.specs.declared.sizes.TheConstants.{CELLS}
 use Rattle.far_word.specs.Sizes.{words_for}
-use Rattle.far_core.specs.declared.event.Event.TheVariants.{Load, Store}
-use Rattle.far_core.specs.declared.event.Reply.TheVariants.{Done}
-use Rattle.far_core.specs.events.Legal.{Legal, HoldsWord}
-use Rattle.far_core.specs.events.Step.{after, data_word}
-use Rattle.far_core.specs.state.Law.{Law}
-use Rattle.far_core.specs.state.State.{State, addr, put}
+use Rattle.far_events.specs.declared.event.Event.TheVariants.{Load, Store}
+use Rattle.far_events.specs.declared.event.Reply.TheVariants.{Done}
+use Rattle.far_events.specs.events.Legal.{Legal, HoldsWord}
+use Rattle.far_events.specs.events.Step.{after, data_word}
+use Rattle.far_events.specs.state.Law.{Law}
+use Rattle.far_events.specs.state.State.{State, addr, put}
 use Rattle.far_core.specs.world.World.{Object, World}
 use Rattle.far_core.specs.world.WorldOf.{world_of}
-use Rattle.far_core.proofs.Calls.{word_behind}
+use Rattle.far_events.proofs.Calls.{word_behind}
 use Rattle.far_core.proofs.ObjectFacts.{object_agrees}
 use Rattle.far_core.proofs.Owing.{does, keeps}
-use Rattle.far_core.proofs.Put.{put_both, put_other, put_same}
+use Rattle.far_events.proofs.Put.{put_both, put_other, put_same}
 use Rattle.far_table.specs.View.{BookView, ObjectView, OwnerView, View, Owner, OtherViews, with_owner}
 use Rattle.far_table.specs.Layout.{LOGS_AT, table_words, data_at, epoch_in, scope_in, cell_in, job_in, word_in}
 use Rattle.far_table.specs.Plays.{Stored}

@@ -4,7 +4,7 @@ use Rattle.std.specs.Prelude.{slice_index}
 use Rattle.std.specs.List.{range_with_len}
 use Rattle.std.proofs.lemmas.Bool.{eq-eqb, le-ltb, lt-ltb}
 use Rattle.std.proofs.lemmas.List.FromFn.{get_or-map-range_with_len, length-map-range_with_len, map-range_with_len_more}
-use Rattle.far_core.specs.state.State.{State}
+use Rattle.far_events.specs.state.State.{State}
 use Rattle.far_table.specs.First.{IsTableOf}
 use Rattle.far_table.specs.Layout.{EPOCH_AT, LINE, table_words, cell_at, data_at, job_at, scope_at}
 use Rattle.far_table.specs.Tabled.{line_word, table_word}

@@ -4,16 +4,16 @@ use mathlib.Core.Option.{some}
 use lib.ListN.{get_elem?}
 use Rattle.atomic_table.proofs.Lists.{set_here}
 use Rattle.far_word.specs.declared.pointer.Place.{Place}
-use Rattle.far_core.specs.events.Step.{after, answer}
-use Rattle.far_core.specs.state.Law.{Law}
-use Rattle.far_core.specs.state.State.{State}
+use Rattle.far_events.specs.events.Step.{after, answer}
+use Rattle.far_events.specs.state.Law.{Law}
+use Rattle.far_events.specs.state.State.{State}
 use Rattle.far_core.specs.world.WorldOf.{world_of}
 use Rattle.far_core.proofs.ObjectFacts.{object_agrees}
 use Rattle.far_core.proofs.Owing.{does}
 use Rattle.far_core.proofs.Steps.{agrees}
 use Rattle.far_core.proofs.WorldLaws.{objects_stand, steps_keep}
-use Rattle.far_core.specs.declared.event.Event.{Event}
-use Rattle.far_core.specs.declared.event.Reply.{Reply}
+use Rattle.far_events.specs.declared.event.Event.{Event}
+use Rattle.far_events.specs.declared.event.Reply.{Reply}
 use Rattle.far_word.specs.declared.sizes.TheConstants.{CELLS}
 use Rattle.far_table.specs.RowTells.{StoredEach}
 use Rattle.far_table.specs.StateOf.{state_of}

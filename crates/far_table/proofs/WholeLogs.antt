@@ -1,6 +1,6 @@
 -- The core's law in the subject's words.
-use Rattle.far_core.specs.state.Law.{Law}
-use Rattle.far_core.specs.state.State.{State}
+use Rattle.far_events.specs.state.Law.{Law}
+use Rattle.far_events.specs.state.State.{State}
 use Rattle.far_core.proofs.LiveLaws.{live_is}
 use Rattle.far_core.proofs.Observations.{bytes_make_log, has_one_place, names_once, near_has_one_live}
 use Rattle.far_table.specs.Whole.{IsWhole}

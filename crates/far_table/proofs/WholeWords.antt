@@ -15,8 +15,8 @@ use Rattle.far_word.specs.Bytes.{byte_at, packed_word, words_of}
 use Rattle.far_word.specs.Sizes.{words_for}
 use Rattle.far_word.proofs.ByteLaws.{bytes_of-get, bytes_of-words_of, words_of-get}
 use Rattle.far_word.proofs.WordBytes.{low_byte, read_word}
-use Rattle.far_core.specs.state.State.{addr, put}
-use Rattle.far_core.proofs.Put.{put_other, put_same}
+use Rattle.far_events.specs.state.State.{addr, put}
+use Rattle.far_events.proofs.Put.{put_other, put_same}
 use Rattle.atomic_table.specs.Seated.{TableId}
 use Rattle.far_table.specs.View.{ObjectView, OwnerView, View, Owner}
 use Rattle.far_table.specs.Ranges.{HasBytes, Wrote}

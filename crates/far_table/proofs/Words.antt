@@ -5,8 +5,8 @@ use Rattle.std.proofs.lemmas.Bool.{lt-ltb, ltb-true}
 use mathlib.Core.Path.{fun_ext}
 use lib.ListN.{length-set}
 use Rattle.far_word.specs.declared.sizes.TheConstants.{JOBS, MOST_MUTATORS, POINTERS}
-use Rattle.far_core.specs.state.State.{put}
-use Rattle.far_core.proofs.Put.{put_both}
+use Rattle.far_events.specs.state.State.{put}
+use Rattle.far_events.proofs.Put.{put_both}
 use Rattle.far_table.specs.Layout.{EPOCH_AT, LayoutIs, table_words, scope_at, cell_at, data_at, job_at, epoch_in, scope_in, cell_in, job_in, word_in}
 
 where_so : (t : Bool) (a b d : ℕ) → (t ≡ true → a ≡ b) → cond t a d ≡ cond t b d

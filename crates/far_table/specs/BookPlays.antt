@@ -8,9 +8,9 @@ use Rattle.far_word.specs.Job.{job_of}
 use Rattle.far_word.specs.Mark.{position}
 use Rattle.far_word.specs.declared.mark.Mark.TheVariants.{Evac}
 use Rattle.far_word.specs.declared.sizes.TheConstants.{LOG_WORDS}
-use Rattle.far_core.specs.declared.event.Event.TheVariants.{See, Mark, Clear, Get, Put, Name, Advance, Look, Offer, SeeJob, Collect}
-use Rattle.far_core.specs.declared.event.Reply.TheVariants.{Done, Epoch, Word}
-use Rattle.far_core.specs.events.Legal.{Legal}
+use Rattle.far_events.specs.declared.event.Event.TheVariants.{See, Mark, Clear, Get, Put, Name, Advance, Look, Offer, SeeJob, Collect}
+use Rattle.far_events.specs.declared.event.Reply.TheVariants.{Done, Epoch, Word}
+use Rattle.far_events.specs.events.Legal.{Legal}
 use Rattle.far_hand.specs.Finds.{Finds}
 use Rattle.far_hand.specs.FindsJob.{FindsJob}
 use Rattle.far_hand.specs.Known.{StoresLeaving}

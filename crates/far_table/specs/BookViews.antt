@@ -7,10 +7,10 @@ use Rattle.far_word.specs.declared.sizes.TheConstants.{CELLS, LOG_WORDS}
 use Rattle.far_word.specs.Mark.{position}
 use Rattle.far_word.specs.Pointer.{read_of}
 use Rattle.far_word.specs.Scope.{scope_of}
-use Rattle.far_core.specs.declared.event.Kind.TheVariants as kinds
-use Rattle.far_core.specs.events.Advance.{is_among}
-use Rattle.far_core.specs.events.Clear.{evac_cleared}
-use Rattle.far_core.specs.events.Look.{shows_clear}
+use Rattle.far_events.specs.declared.event.Kind.TheVariants as kinds
+use Rattle.far_events.specs.events.Advance.{is_among}
+use Rattle.far_events.specs.events.Clear.{evac_cleared}
+use Rattle.far_events.specs.events.Look.{shows_clear}
 use Rattle.far_hand.specs.Quiet.{is_quiet_word}
 use Rattle.far_table.specs.View.{BookView}
 use Rattle.far_table.specs.Rows.{over}

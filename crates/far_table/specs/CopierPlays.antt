@@ -3,10 +3,10 @@ use Rattle.std.specs.Prelude.{◌≡◌, ◌+◌, ◌==◌, ℕ, cond, Some, IsS
 use Rattle.atomic_table.specs.Table.{Me, Step}
 use Rattle.far_word.specs.Header.{head_of}
 use Rattle.far_word.specs.Job.{job_in}
-use Rattle.far_core.specs.declared.event.Event.TheVariants.{PeekJob, Claim, ReadLength, Read, Write, Finish}
-use Rattle.far_core.specs.declared.event.Reply.TheVariants.{Done, Word}
-use Rattle.far_core.specs.declared.event.Task.{Task}
-use Rattle.far_core.specs.state.State.{addr}
+use Rattle.far_events.specs.declared.event.Event.TheVariants.{PeekJob, Claim, ReadLength, Read, Write, Finish}
+use Rattle.far_events.specs.declared.event.Reply.TheVariants.{Done, Word}
+use Rattle.far_events.specs.declared.event.Task.{Task}
+use Rattle.far_events.specs.state.State.{addr}
 use Rattle.far_table.specs.View.{View}
 use Rattle.far_table.specs.CopierViews.{claimed_view, finished_view, measured_view, peeked_view, word_read_view, word_written_view}
 use Rattle.far_table.specs.Layout.{data_at, job_at}

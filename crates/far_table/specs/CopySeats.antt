@@ -6,15 +6,15 @@ use Rattle.far_word.specs.Job.{job_in, job_of}
 use Rattle.far_word.specs.Pointer.{read_of}
 use Rattle.far_word.specs.Sizes.{words_for}
 use Rattle.far_log.specs.Spans.{head_len}
-use Rattle.far_core.specs.declared.event.Event.TheVariants.{Claim, Get, PeekJob, Read, ReadLength, Write}
-use Rattle.far_core.specs.declared.event.Kind.TheVariants.{Free}
-use Rattle.far_core.specs.declared.event.Reply.TheVariants.{Done, Word}
-use Rattle.far_core.specs.declared.event.Task.{Task}
-use Rattle.far_core.specs.events.Claim.{offered_in}
-use Rattle.far_core.specs.events.Legal.{Legal}
-use Rattle.far_core.specs.events.Step.{after}
-use Rattle.far_core.specs.state.Jobs.{job_words, near_place}
-use Rattle.far_core.specs.state.State.{State, addr}
+use Rattle.far_events.specs.declared.event.Event.TheVariants.{Claim, Get, PeekJob, Read, ReadLength, Write}
+use Rattle.far_events.specs.declared.event.Kind.TheVariants.{Free}
+use Rattle.far_events.specs.declared.event.Reply.TheVariants.{Done, Word}
+use Rattle.far_events.specs.declared.event.Task.{Task}
+use Rattle.far_events.specs.events.Claim.{offered_in}
+use Rattle.far_events.specs.events.Legal.{Legal}
+use Rattle.far_events.specs.events.Step.{after}
+use Rattle.far_events.specs.state.Jobs.{job_words, near_place}
+use Rattle.far_events.specs.state.State.{State, addr}
 use Rattle.far_table.specs.CopierViews.{claimed_view, measured_view, peeked_view, word_read_view, word_written_view, words_written}
 use Rattle.far_table.specs.Layout.{JOBS_AT, data_at}
 use Rattle.far_table.specs.Tells.{CopierMade, CopierMayBe}

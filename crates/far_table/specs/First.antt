@@ -7,7 +7,7 @@ use Rattle.far_word.specs.declared.scope.ScopeWord.TheVariants as scoped
 use Rattle.far_word.specs.declared.sizes.TheConstants.{CELLS, JOBS, LOG_WORDS, MOST_COPIERS, MOST_LOGS, MOST_MUTATORS, POINTERS}
 use Rattle.far_word.specs.Scope.{scope_of}
 use Rattle.far_word.specs.Sizes.{words_for}
-use Rattle.far_core.specs.state.State.{State}
+use Rattle.far_events.specs.state.State.{State}
 use Rattle.far_core.specs.world.World.{Object}
 use Rattle.far_core.specs.world.WorldOf.{world_of}
 use Rattle.far_table.specs.View.{BookView, CopierView, ObjectView, OtherViews, OwnerView, AsCopier, AsOwner, roles}

@@ -7,14 +7,14 @@ use Rattle.far_word.specs.Header.{head_word}
 use Rattle.far_word.specs.Job.{job_word}
 use Rattle.far_word.specs.Pointer.{read_of}
 use Rattle.far_word.specs.Sizes.{size_of, words_for}
-use Rattle.far_core.specs.declared.event.Kind.TheVariants.{Open, Sealed}
-use Rattle.far_core.specs.declared.event.Reply.{Reply}
-use Rattle.far_core.specs.declared.event.Reply.TheVariants.{Done, Word}
-use Rattle.far_core.specs.declared.naming.Naming.{Naming}
-use Rattle.far_core.specs.declared.naming.Naming.TheVariants.{Places, Retires, Evicts, Stays, Moves, Fetches}
-use Rattle.far_core.specs.events.Copied.{copied_job}
-use Rattle.far_core.specs.events.Naming.{naming_of}
-use Rattle.far_core.specs.state.State.{addr}
+use Rattle.far_events.specs.declared.event.Kind.TheVariants.{Open, Sealed}
+use Rattle.far_events.specs.declared.event.Reply.{Reply}
+use Rattle.far_events.specs.declared.event.Reply.TheVariants.{Done, Word}
+use Rattle.far_events.specs.declared.naming.Naming.{Naming}
+use Rattle.far_events.specs.declared.naming.Naming.TheVariants.{Places, Retires, Evicts, Stays, Moves, Fetches}
+use Rattle.far_events.specs.events.Copied.{copied_job}
+use Rattle.far_events.specs.events.Naming.{naming_of}
+use Rattle.far_events.specs.state.State.{addr}
 use Rattle.far_table.specs.View.{BookView}
 use Rattle.far_table.specs.BookViews.{saw_view}
 use Rattle.far_table.specs.First.{rows_from}

@@ -6,16 +6,16 @@ use Rattle.far_word.specs.declared.mark.Mark.{Mark}
 use Rattle.far_word.specs.declared.mark.Mark.TheVariants.{Dirty, Hot}
 use Rattle.far_word.specs.declared.pointer.Place.{Place}
 use Rattle.far_word.specs.Mark.{position}
-use Rattle.far_core.specs.events.Ask.{is_request}
+use Rattle.far_events.specs.events.Ask.{is_request}
 use Rattle.far_word.specs.Pointer.{read_of}
 use Rattle.far_word.specs.Sizes.{words_for}
-use Rattle.far_core.specs.events.Pin.{place_to_view, pin_answer}
-use Rattle.far_core.specs.state.Law.{in_use}
-use Rattle.far_core.specs.state.State.{addr}
+use Rattle.far_events.specs.events.Pin.{place_to_view, pin_answer}
+use Rattle.far_events.specs.state.Law.{in_use}
+use Rattle.far_events.specs.state.State.{addr}
 use Rattle.far_table.specs.View.{OwnerView, View, Owner}
 use Rattle.far_table.specs.Layout.{cell_at, data_at}
-use Rattle.far_core.specs.declared.event.Event.TheVariants.{ReadEpoch, Open, Pin, Load, Store, Soil, Close, Adopt, Ask}
-use Rattle.far_core.specs.declared.event.Reply.TheVariants.{Done, Epoch, Word}
+use Rattle.far_events.specs.declared.event.Event.TheVariants.{ReadEpoch, Open, Pin, Load, Store, Soil, Close, Adopt, Ask}
+use Rattle.far_events.specs.declared.event.Reply.TheVariants.{Done, Epoch, Word}
 use Rattle.far_table.specs.Tells.{OwnerRefused, Tells, owner_of}
 use Rattle.far_table.specs.Views.{adopted_view, asked_view, closed_view, held_at, len_of, noted_view, object_at, opened_view, pinned_view, read_view, soiled_view, stored_view, word_in_view}
 

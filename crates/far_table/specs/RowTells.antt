@@ -1,7 +1,7 @@
 -- What a row of words tells that is loaded or stored by one call: each word was one event.
 use Rattle.std.specs.Prelude.{◌≡◌, ◌+◌, ◌<◌, ℕ, zero, suc}
-use Rattle.far_core.specs.declared.event.Event.TheVariants.{Load, Store}
-use Rattle.far_core.specs.declared.event.Reply.TheVariants.{Done, Word}
+use Rattle.far_events.specs.declared.event.Event.TheVariants.{Load, Store}
+use Rattle.far_events.specs.declared.event.Reply.TheVariants.{Done, Word}
 use Rattle.far_table.specs.View.{OwnerView}
 use Rattle.far_table.specs.Tells.{OwnerMade}
 use Rattle.far_table.specs.Views.{stored_view}

@@ -6,10 +6,10 @@ use Rattle.atomic_table.specs.Table.{State as Table}
 use Rattle.far_word.specs.Bytes.{packed_word}
 use Rattle.far_word.specs.declared.sizes.TheConstants.{CELLS, MOST_COPIERS}
 use Rattle.far_word.specs.Sizes.{words_for}
-use Rattle.far_core.specs.events.Open.{scope_word_of}
+use Rattle.far_events.specs.events.Open.{scope_word_of}
 use Rattle.far_core.specs.state.Agrees.{Agrees}
-use Rattle.far_core.specs.state.Law.{Law}
-use Rattle.far_core.specs.state.State.{State}
+use Rattle.far_events.specs.state.Law.{Law}
+use Rattle.far_events.specs.state.State.{State}
 use Rattle.far_core.specs.world.World.{Object}
 use Rattle.far_core.specs.world.WorldOf.{world_of}
 use Rattle.far_hand.specs.Known.{IsKnown}

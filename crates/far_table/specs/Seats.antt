@@ -4,9 +4,9 @@ use Rattle.atomic_table.specs.Seated.{TableId}
 use Rattle.far_word.specs.declared.pointer.Place.{Place}
 use Rattle.far_word.specs.declared.sizes.TheConstants.{CELLS, EPOCH_END, LOG_WORDS, MOST_LOGS}
 use Rattle.far_word.specs.Sizes.{words_for}
-use Rattle.far_core.specs.declared.event.Reply.{Reply}
-use Rattle.far_core.specs.declared.event.Reply.TheVariants.{Held, Word}
-use Rattle.far_core.specs.state.State.{addr}
+use Rattle.far_events.specs.declared.event.Reply.{Reply}
+use Rattle.far_events.specs.declared.event.Reply.TheVariants.{Held, Word}
+use Rattle.far_events.specs.state.State.{addr}
 use Rattle.far_table.specs.View.{CopierView, OwnerView}
 use Rattle.far_table.specs.Views.{held_at, len_of, object_at}
 

@@ -5,8 +5,8 @@ use Rattle.atomic_table.specs.declared.shared.Seat.{Seat}
 use Rattle.atomic_table.specs.Seated.{TableId}
 use Rattle.far_word.specs.declared.sizes.TheConstants.{CELLS, EPOCH_END, LEAST_LOGS, LEAST_MUTATORS, MOST_COPIERS, MOST_LOGS, MOST_MUTATORS}
 use Rattle.far_table.specs.View.{BookView, CopierView, ObjectView, OtherViews, OwnerView, Role, View, Book, Owner, Copier, seat_of}
-use Rattle.far_core.specs.events.Open.{scope_word_of}
-use Rattle.far_core.specs.state.State.{State}
+use Rattle.far_events.specs.events.Open.{scope_word_of}
+use Rattle.far_events.specs.state.State.{State}
 use Rattle.far_hand.specs.Known.{unknown}
 use Rattle.far_hand.specs.Masked.{masked}
 use Rattle.far_table.specs.CopierViews.{words_read, words_written}

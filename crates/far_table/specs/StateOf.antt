@@ -2,9 +2,9 @@
 use Rattle.std.specs.Prelude.{ℕ, ◌/◌, Bool, false, true, Option, Some, None, List, [], is_some}
 use Rattle.far_word.specs.declared.pointer.Place.{Place}
 use Rattle.far_word.specs.declared.sizes.TheConstants.{CELLS}
-use Rattle.far_core.specs.declared.event.Kind.TheVariants.{Free}
-use Rattle.far_core.specs.events.Advance.{is_among}
-use Rattle.far_core.specs.state.State.{Copying, State}
+use Rattle.far_events.specs.declared.event.Kind.TheVariants.{Free}
+use Rattle.far_events.specs.events.Advance.{is_among}
+use Rattle.far_events.specs.state.State.{Copying, State}
 use Rattle.far_hand.specs.Known.{unknown}
 use Rattle.far_table.specs.View.{BookView, CopierView, OtherViews, OwnerView}
 use Rattle.far_table.specs.Layout.{epoch_in, scope_in, cell_in, job_in, word_in}

@@ -1,6 +1,6 @@
 -- The words of a state's table.
 use Rattle.std.specs.Prelude.{◌-◌, ◌/◌, ◌%◌, ◌==◌, cond, nat_lt, ℕ}
-use Rattle.far_core.specs.state.State.{State}
+use Rattle.far_events.specs.state.State.{State}
 use Rattle.far_table.specs.Layout.{EPOCH_AT, LINE, cell_at, data_at, job_at, scope_at}
 
 -- of the words from owner 0's scope on, the first of each line is a scope

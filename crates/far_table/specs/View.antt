@@ -1,8 +1,8 @@
 -- What the seats know, as plain data. Rows are pairs of a number and what stands there, newest first; what was written over stays behind.
 use Rattle.std.specs.Prelude.{ℕ, Bool, Option, None, List, [], ◌++◌, map, slice_set}
 use Rattle.far_word.specs.declared.pointer.Place.{Place}
-use Rattle.far_core.specs.declared.event.Kind.{Kind}
-use Rattle.far_core.specs.declared.event.Task.{Task}
+use Rattle.far_events.specs.declared.event.Kind.{Kind}
+use Rattle.far_events.specs.declared.event.Task.{Task}
 
 -- what an owner knows of an object that it uses: its length, its data structure, and its words, 0 where no row has one
 pub record ObjectView : Type 0 where

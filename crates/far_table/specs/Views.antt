@@ -6,10 +6,10 @@ use Rattle.far_word.specs.declared.pointer.Place.{Place}
 use Rattle.far_word.specs.declared.pointer.PtrWord.{PtrWord}
 use Rattle.far_word.specs.declared.pointer.PtrWord.TheVariants.{Free, Near, Far}
 use Rattle.far_word.specs.Pointer.{read_of, pointer_len}
-use Rattle.far_core.specs.events.Naming.{is_dropped}
-use Rattle.far_core.specs.events.Pin.{place_to_view}
-use Rattle.far_core.specs.events.Quiet.{has_move}
-use Rattle.far_core.specs.state.Law.{is_dirty}
+use Rattle.far_events.specs.events.Naming.{is_dropped}
+use Rattle.far_events.specs.events.Pin.{place_to_view}
+use Rattle.far_events.specs.events.Quiet.{has_move}
+use Rattle.far_events.specs.state.Law.{is_dirty}
 use Rattle.far_table.specs.View.{ObjectView, OwnerView}
 use Rattle.far_table.specs.Rows.{over}
 

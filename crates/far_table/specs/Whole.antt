@@ -3,7 +3,7 @@ use Rattle.std.specs.Prelude.{◌≡◌, ℕ, ◌+◌}
 use Rattle.far_log.specs.declared.span.Span.{Span}
 use Rattle.far_core.specs.laws.Live.{LiveIs}
 use Rattle.far_core.specs.laws.Observed.{HasOnePlace, NamesOnce, NearHasOneLive, dead_bytes, live_bytes, unused_bytes}
-use Rattle.far_core.specs.state.State.{State}
+use Rattle.far_events.specs.state.State.{State}
 
 -- each object in use has one place, near or far; a near cell has exactly one live span, and no two cells name one place; a span is live exactly where the pointer
 -- in its header names its place; and each log's live, dead and unused bytes make 4,096

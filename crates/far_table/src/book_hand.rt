@@ -1,13 +1,13 @@
 // The book's seat as a hand: each call but `shape` is one step on one word, or such a row. A row of none is no step: the seat is as it was then.
-ghost use Rattle.far_core.specs.declared.event.Event.{Event as any_event};
-ghost use Rattle.far_core.specs.declared.event.Reply.{Reply as any_reply};
-ghost use Rattle.far_core.specs.events.Legal.{Legal};
-ghost use Rattle.far_core.specs.events.Step.{Fits, after};
+ghost use Rattle.far_events.specs.declared.event.Event.{Event as any_event};
+ghost use Rattle.far_events.specs.declared.event.Reply.{Reply as any_reply};
+ghost use Rattle.far_events.specs.events.Legal.{Legal};
+ghost use Rattle.far_events.specs.events.Step.{Fits, after};
 ghost use Rattle.far_core.specs.laws.Jobs.{JobsStand};
 ghost use Rattle.far_hand.specs.Makers.{is_owners};
 ghost use Rattle.far_hand.specs.Ranges.{Gets};
 ghost use Rattle.std.specs.Prelude.{◌≡◌, true, false};
-ghost use Rattle.far_core.specs.state.State.{State};
+ghost use Rattle.far_events.specs.state.State.{State};
 ghost use Rattle.far_table.specs.BookSeats.{is_copiers, seat_makes, seat_may_be, seat_view};
 ghost use Rattle.far_table.specs.Viewed.{NoneIsGivenOut};
 ghost use Rattle.far_table.specs.Whole.{IsWhole};

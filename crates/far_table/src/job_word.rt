@@ -2,8 +2,8 @@
 ghost use Rattle.std.specs.Prelude.{◌≡◌, true, false, Some, None, IsSome};
 ghost use Rattle.far_word.specs.declared.job.JobWord.TheVariants.{Offered};
 ghost use Rattle.far_word.specs.Job.{job_in, job_of};
-ghost use Rattle.far_core.specs.events.Claim.{offered_in};
-ghost use Rattle.far_core.specs.state.State.{addr};
+ghost use Rattle.far_events.specs.events.Claim.{offered_in};
+ghost use Rattle.far_events.specs.state.State.{addr};
 
 use far_word::LOG_WORDS;
 

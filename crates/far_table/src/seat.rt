@@ -1,22 +1,22 @@
 // An owner's seat.
 ghost use Rattle.std.specs.Prelude.{if◌then◌else◌, ◌≡◌, ◌+◌, ◌-◌, ◌*◌, ◌/◌, ◌%◌, ◌^◌, ◌<◌, ◌≤◌, true, false, ℕ, length, map, Some, None, IsSome, IfOk, IfErr, IfSome};
 ghost use Rattle.std.specs.Arc.{arc_value};
-ghost use Rattle.far_core.specs.declared.event.Event.{Event as any_event};
-ghost use Rattle.far_core.specs.declared.event.Reply.{Reply as any_reply};
+ghost use Rattle.far_events.specs.declared.event.Event.{Event as any_event};
+ghost use Rattle.far_events.specs.declared.event.Reply.{Reply as any_reply};
 ghost use Rattle.far_table.specs.Tells.{Found, HasState, OwnerMade, OwnerMayBe, OwnerRefused, owner_of};
 ghost use Rattle.far_table.specs.Viewed.{StaysGiven};
 ghost use Rattle.std.specs.List.{range_with_len};
 ghost use Rattle.far_word.specs.declared.sizes.TheConstants.{CELLS, LOG_WORDS, LONGEST, MOST_LOGS, MOST_MUTATORS};
 ghost use Rattle.far_core.specs.state.CoreState.{core_state};
-ghost use Rattle.far_core.specs.state.State.{State, addr};
+ghost use Rattle.far_events.specs.state.State.{State, addr};
 ghost use Rattle.far_word.specs.declared.pointer.Place.{Place as any_place};
 ghost use Rattle.far_table.specs.View.{Owner, OwnerView};
 ghost use Rattle.far_table.specs.First.{first_owner};
 ghost use Rattle.far_table.specs.Layout.{table_words};
 ghost use Rattle.far_word.specs.Pointer.{read_of};
-ghost use Rattle.far_core.specs.events.Ask.{is_request};
-ghost use Rattle.far_core.specs.state.Law.{in_use, is_dirty};
-ghost use Rattle.far_core.specs.events.Pin.{pin_answer, place_to_view};
+ghost use Rattle.far_events.specs.events.Ask.{is_request};
+ghost use Rattle.far_events.specs.state.Law.{in_use, is_dirty};
+ghost use Rattle.far_events.specs.events.Pin.{pin_answer, place_to_view};
 ghost use Rattle.far_table.specs.Ranges.{HasBytes, Wrote};
 ghost use Rattle.far_table.specs.RowTells.{LoadedEach, StoredEach};
 ghost use Rattle.far_table.specs.Seats.{data_begin, pin_reply};
@@ -186,14 +186,20 @@ impl<D: Device> MutSeat<D> {
     /// Sets HOT in the cell of a pointer, and holds the place of its object where the word found is near with none of EVAC, MOVE and
     /// DROP; else the word found. The view counts HOT as set anew where the word found hasn't got it, held or not.
     pub fn pin(&mut self, p: u16) -> Result<Place, u64>
+        // the pointer is the owner's own, in use and not held, and its scope is open
         requires own { p / CELLS ≡ self.old.view.number }
         requires used { uses self.old.view p ≡ true }
         requires free { held_at self.old.view p ≡ None }
         requires opened { IsSome self.old.view.open_at }
+
+        // the view holds the place where the word that was found is near with none of EVAC, MOVE and DROP; else that is the answer; HOT is counted where it was
+        // set anew, and the table is the same
         ensures table { self.new.table ≡ self.old.table }
         ensures held { IfOk result (λ place. (found : ℕ) × (place_to_view (read_of found) ≡ Some place) × (self.new.view ≡ held_view p place (warmed_view p found self.old.view))) }
         ensures kept { IfErr result (λ found. (self.new.view ≡ warmed_view p found self.old.view) × (place_to_view (read_of found) ≡ None)) }
         ensures pinned { IfOk result (λ place. (pinned_at self.new.view p ≡ true) × (held_at self.new.view p ≡ Some place)) }
+
+        // the call was this one event of the core, with this reply
         ensures found { (found : ℕ) × Found p found self.old.view self.new.view × (pin_reply result ≡ pin_answer found (place_to_view (read_of found))) }
         ensures event { OwnerMade (Event.Pin self.old.view.number p) self.old.view (pin_reply result) self.new.view }
     {

@@ -3,7 +3,7 @@ ghost use Rattle.std.specs.Prelude.{◌≡◌, ◌≢◌, ◌+◌, ◌-◌, ◌*
 ghost use Rattle.std.specs.Arc.{arc_value};
 ghost use Rattle.std.specs.List.{range_with_len};
 ghost use Rattle.far_core.specs.state.CoreState.{core_state};
-ghost use Rattle.far_core.specs.state.State.{State};
+ghost use Rattle.far_events.specs.state.State.{State};
 ghost use Rattle.far_table.specs.BookSeats.{table_of, book_in};
 ghost use Rattle.far_table.specs.First.{first_copier, first_owner, unseated, waiting};
 ghost use Rattle.far_table.specs.Layout.{table_words};

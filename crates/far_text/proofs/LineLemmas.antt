@@ -11,7 +11,7 @@ use Rattle.std.proofs.lemmas.List.Splits.{join_with_byte-slice_split}
 use Rattle.std.proofs.Math.Seq.{drop-cons, drop-length, take-length}
 use Rattle.hex.specs.Hex.{is_hex_digit, IsBytes}
 use Rattle.hex.proofs.HexLemmas.{decode_of-ok}
-use Rattle.far_text.specs.Command.{Entry, HeapLine, DeviceLine, Flawed, Flaw, Fail, Short, Flip, CommandLine, New, Open, On, Reads, Writes, Views, Close, Where, Drop, Try, Epoch, Logs, Log, Audit, Mutator, Book, Evacuator, Policy, Oldest, LeastLive, By, Script, Select, Mark, Wait, Evacuate, Abort, Round}
+use Rattle.far_text.specs.Command.{Entry, HeapLine, DeviceLine, Flawed, Flaw, Fail, Short, Flip, CommandLine, New, Open, On, Reads, Writes, Close, Epoch, Logs, Log, Audit, Mutator, Book, Evacuator, Policy, Oldest, LeastLive, By, Script, Select, Mark, Wait, Evacuate, Abort, Round}
 use Rattle.far_text.specs.declared.hex_word.TheConstants.{LONGEST_LINE}
 use Rattle.far_text.specs.Says.{Says, Spells, flaw_name, policy_name}
 use Rattle.far_text.specs.Grammar.{Line, Skipped, Saying, Bad, saying, line_of, is_plain, is_skipped, entry_of, lines_of, line_words}
@@ -72,11 +72,8 @@ said_ascii words (CommandLine (Mutator m (On p (Writes f b)))) h =
     ap (list_all (list_all is_ascii)) h.1 ∙ rw (decimal_ascii m h.2, decimal_ascii p h.3, decimal_ascii f h.4, spelled_ascii h.0 b h.5) refl
 said_ascii words (CommandLine (Mutator m (On p (Reads f l)))) h = ap (list_all (list_all is_ascii)) h.0 ∙ rw (decimal_ascii m h.1, decimal_ascii p h.2, decimal_ascii f h.3, decimal_ascii l h.4) refl
 said_ascii words (CommandLine (Mutator m Close)) h = ap (list_all (list_all is_ascii)) h.0 ∙ rw (decimal_ascii m h.1) refl
-said_ascii words (CommandLine (Mutator m (Where p))) h = ap (list_all (list_all is_ascii)) h.0 ∙ rw (decimal_ascii m h.1, decimal_ascii p h.2) refl
-said_ascii words (CommandLine (Mutator m (Drop p))) h = ap (list_all (list_all is_ascii)) h.0 ∙ rw (decimal_ascii m h.1, decimal_ascii p h.2) refl
-said_ascii words (CommandLine (Mutator m (On p Views))) h = ap (list_all (list_all is_ascii)) h.0 ∙ rw (decimal_ascii m h.1, decimal_ascii p h.2) refl
-said_ascii words (CommandLine (Mutator m (Try p))) h = ap (list_all (list_all is_ascii)) h.0 ∙ rw (decimal_ascii m h.1, decimal_ascii p h.2) refl
 said_ascii words (CommandLine (Mutator m Epoch)) h = ap (list_all (list_all is_ascii)) h.0 ∙ rw (decimal_ascii m h.1) refl
+said_ascii words (CommandLine (Mutator m request)) h = ap (list_all (list_all is_ascii)) h.0 ∙ rw (decimal_ascii m h.1, decimal_ascii _ h.2) refl
 said_ascii words (CommandLine (Book Logs)) h = ap (list_all (list_all is_ascii)) h
 said_ascii words (CommandLine (Book (Log l))) h = ap (list_all (list_all is_ascii)) h.0 ∙ rw (decimal_ascii l h.1) refl
 said_ascii words (CommandLine (Book Audit)) h = ap (list_all (list_all is_ascii)) h

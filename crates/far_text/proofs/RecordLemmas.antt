@@ -11,9 +11,9 @@ use Rattle.far_text.specs.Command.{Command, Mutator, On, Writes, Evacuator, Sele
 use Rattle.far_text.specs.Records.{number_in, command_in, step_in, IsWithin, IsStepWithin, AreWithin}
 use Rattle.far_text.specs.Written.{WritesBytes, ChoosesFew}
 use Rattle.far_text.specs.declared.commands.Record.{Record}
-use Rattle.far_text.specs.declared.commands.Record.TheVariants.{New as NewRecord, Open as OpenRecord, Write as WriteRecord, Read as ReadRecord, Close as CloseRecord, Where as WhereRecord, Drop as DropRecord, View as ViewRecord, Try as TryRecord, Epoch as EpochRecord, Logs as LogsRecord, Log as LogRecord, Audit as AuditRecord, Evacuator as EvacuatorRecord}
+use Rattle.far_text.specs.declared.commands.Record.TheVariants.{Write as WriteRecord, Evacuator as EvacuatorRecord}
 use Rattle.far_text.specs.declared.steps.StepRecord.{StepRecord}
-use Rattle.far_text.specs.declared.steps.StepRecord.TheVariants.{Select as SelectRecord, Script as ScriptRecord, Mark as MarkRecord, Wait as WaitRecord, Evacuate as EvacuateRecord, Abort as AbortRecord, Round as RoundRecord}
+use Rattle.far_text.specs.declared.steps.StepRecord.TheVariants.{Script as ScriptRecord}
 use Rattle.far_text.proofs.Reading.{map_append}
 
 -- the front of a buffer that new bytes were put into
@@ -43,29 +43,13 @@ module _ (old new : List ℕ) (kept : take (length old) new ≡ old) where
       ∙ take-append-le (start + count - start) (drop start old) more (omega (arith, length-drop start old))
 
   step_stays : (r : StepRecord) → IsStepWithin (length old) r → step_in new r ≡ step_in old r
-  step_stays (SelectRecord policy most) h = refl
   step_stays (ScriptRecord most start count) h = ap (λ b. Select (Script b) most) (part_stays start count h.0)
-  step_stays (MarkRecord count) h = refl
-  step_stays WaitRecord h = refl
-  step_stays (EvacuateRecord count) h = refl
-  step_stays AbortRecord h = refl
-  step_stays (RoundRecord policy most turns) h = refl
+  step_stays r h = refl
 
   command_stays : (r : Record) → IsWithin (length old) r → command_in new r ≡ command_in old r
-  command_stays (NewRecord m len ds) h = refl
-  command_stays (OpenRecord m) h = refl
   command_stays (WriteRecord m p from start count) h = ap (λ b. Mutator (number_in m) (On (number_in p) (Writes (number_in from) b))) (part_stays start count h)
-  command_stays (ReadRecord m p from len) h = refl
-  command_stays (CloseRecord m) h = refl
-  command_stays (WhereRecord m p) h = refl
-  command_stays (DropRecord m p) h = refl
-  command_stays (ViewRecord m p) h = refl
-  command_stays (TryRecord m p) h = refl
-  command_stays (EpochRecord m) h = refl
-  command_stays LogsRecord h = refl
-  command_stays (LogRecord l) h = refl
-  command_stays AuditRecord h = refl
   command_stays (EvacuatorRecord step) h = ap Evacuator (step_stays step h)
+  command_stays r h = refl
 
   pub commands_stay : (rs : List Record) → AreWithin (length old) rs → map (command_in new) rs ≡ map (command_in old) rs
   commands_stay [] h = refl
@@ -80,29 +64,13 @@ module _ (old new : List ℕ) (kept : take (length old) new ≡ old) where
       ∙ ap Some (sym (map_append (command_in new) rs (r ∷ [])))
 
 step_within_more : (a b : ℕ) → a ≤ b → (r : StepRecord) → IsStepWithin a r → IsStepWithin b r
-step_within_more a b h (SelectRecord policy most) i = i
 step_within_more a b h (ScriptRecord most start count) i = (omega (arith, i.0), i.1)
-step_within_more a b h (MarkRecord count) i = tt
-step_within_more a b h WaitRecord i = tt
-step_within_more a b h (EvacuateRecord count) i = tt
-step_within_more a b h AbortRecord i = tt
-step_within_more a b h (RoundRecord policy most turns) i = i
+step_within_more a b h r i = i
 
 within_more : (a b : ℕ) → a ≤ b → (r : Record) → IsWithin a r → IsWithin b r
-within_more a b h (NewRecord m len ds) i = tt
-within_more a b h (OpenRecord m) i = tt
 within_more a b h (WriteRecord m p from start count) i = omega arith
-within_more a b h (ReadRecord m p from len) i = tt
-within_more a b h (CloseRecord m) i = tt
-within_more a b h (WhereRecord m p) i = tt
-within_more a b h (DropRecord m p) i = tt
-within_more a b h (ViewRecord m p) i = tt
-within_more a b h (TryRecord m p) i = tt
-within_more a b h (EpochRecord m) i = tt
-within_more a b h LogsRecord i = tt
-within_more a b h (LogRecord l) i = tt
-within_more a b h AuditRecord i = tt
 within_more a b h (EvacuatorRecord step) i = step_within_more a b h step i
+within_more a b h r i = i
 
 pub one_within_more : (a b : ℕ) → a ≤ b → (rs : List Record) (r : Record) → AreWithin a rs → IsWithin b r → AreWithin b (rs ++ r ∷ [])
 one_within_more a b h [] r all one = (one, tt)
@@ -123,27 +91,11 @@ part_bytes bytes start count small k = elim (cases_lt k count) [
 
 -- few logs are chosen, and those that a script names are bytes
 step_chooses_few : (bytes : List ℕ) → IsBytes bytes → (r : StepRecord) → IsStepWithin (length bytes) r → ChoosesFew (step_in bytes r)
-step_chooses_few bytes small (SelectRecord policy most) h = h
 step_chooses_few bytes small (ScriptRecord most start count) h = (part_bytes bytes start count small, h.1)
-step_chooses_few bytes small (MarkRecord count) h = tt
-step_chooses_few bytes small WaitRecord h = tt
-step_chooses_few bytes small (EvacuateRecord count) h = tt
-step_chooses_few bytes small AbortRecord h = tt
-step_chooses_few bytes small (RoundRecord policy most turns) h = h
+step_chooses_few bytes small r h = h
 
 -- what is written is bytes
 pub record_writes_bytes : (bytes : List ℕ) → IsBytes bytes → (r : Record) → IsWithin (length bytes) r → WritesBytes (command_in bytes r)
-record_writes_bytes bytes small (NewRecord m len ds) h = tt
-record_writes_bytes bytes small (OpenRecord m) h = tt
 record_writes_bytes bytes small (WriteRecord m p from start count) h = part_bytes bytes start count small
-record_writes_bytes bytes small (ReadRecord m p from len) h = tt
-record_writes_bytes bytes small (CloseRecord m) h = tt
-record_writes_bytes bytes small (WhereRecord m p) h = tt
-record_writes_bytes bytes small (DropRecord m p) h = tt
-record_writes_bytes bytes small (ViewRecord m p) h = tt
-record_writes_bytes bytes small (TryRecord m p) h = tt
-record_writes_bytes bytes small (EpochRecord m) h = tt
-record_writes_bytes bytes small LogsRecord h = tt
-record_writes_bytes bytes small (LogRecord l) h = tt
-record_writes_bytes bytes small AuditRecord h = tt
 record_writes_bytes bytes small (EvacuatorRecord step) h = step_chooses_few bytes small step h
+record_writes_bytes bytes small r h = tt

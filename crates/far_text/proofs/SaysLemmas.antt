@@ -7,7 +7,7 @@ use Rattle.std.proofs.lemmas.Bool.Decides.{Decides-ltb}
 use Rattle.std.proofs.lemmas.List.{length-map}
 use Rattle.hex.specs.Hex.{IsBytes}
 use Rattle.std.proofs.lemmas.Slice.Eq.{bytes_eq-Decides}
-use Rattle.far_text.specs.Command.{Entry, HeapLine, DeviceLine, Flawed, Flaw, Fail, Short, Flip, CommandLine, New, Open, On, Reads, Writes, Views, Close, Where, Drop, Try, Epoch, Logs, Log, Audit, Mutator, Book, Evacuator, Policy, Oldest, LeastLive, By, Script, Step, Select, Mark, Wait, Evacuate, Abort, Round}
+use Rattle.far_text.specs.Command.{Entry, HeapLine, DeviceLine, Flawed, Flaw, Fail, Short, Flip, CommandLine, New, Open, On, Reads, Writes, Close, Epoch, Logs, Log, Audit, Mutator, Book, Evacuator, Policy, Oldest, LeastLive, By, Script, Step, Select, Mark, Wait, Evacuate, Abort, Round}
 use Rattle.far_text.specs.declared.hex_word.TheConstants.{LONGEST_BYTES}
 use Rattle.far_text.specs.Says.{Says, Spells, AreLogs, flaw_name, policy_name}
 use Rattle.far_text.specs.Grammar.{says_heap, asks_read, asks_write, asks_open, asks_close, asks_new, asks_where, asks_drop, asks_view, asks_try, asks_epoch, asks_log, asks_mark, asks_evacuate, asks_select, asks_round, asks_script, select_by, round_by, device_by, flaw_of, says_device, policy_of, log_of, each_log, logs_of, limited, step_line, perhaps, From, Operands, Numbers, NumbersAndOneOr, NumbersAndBytes, WordThen, number_of, bytes_in, next_number, last_bytes, numbers_then, one_or, entry_at_end, entry_from, steps, table, found_in, entry_of, ◌>>=◌}
@@ -53,11 +53,8 @@ said_is_read words (HeapLine l m e) (inl h, first, second, third) = ap entry_of 
 said_is_read words (HeapLine l m e) (inr h, first, second, third) =
     ap entry_of h.0 ∙ rw (number_is (decimal l) l first refl, number_is (decimal m) m second refl) (ap (λ n. Some (HeapLine l m n)) (sym h.1))
 said_is_read words (DeviceLine (Flawed flaw call)) h = ap entry_of h.0 ∙ rw (flaw_read flaw, number_is (decimal call) call h.1 refl) refl
-said_is_read words (CommandLine (Mutator m (Where p))) h = ap entry_of h.0 ∙ rw (number_is (decimal m) m h.1 refl, number_is (decimal p) p h.2 refl) refl
-said_is_read words (CommandLine (Mutator m (Drop p))) h = ap entry_of h.0 ∙ rw (number_is (decimal m) m h.1 refl, number_is (decimal p) p h.2 refl) refl
-said_is_read words (CommandLine (Mutator m (On p Views))) h = ap entry_of h.0 ∙ rw (number_is (decimal m) m h.1 refl, number_is (decimal p) p h.2 refl) refl
-said_is_read words (CommandLine (Mutator m (Try p))) h = ap entry_of h.0 ∙ rw (number_is (decimal m) m h.1 refl, number_is (decimal p) p h.2 refl) refl
 said_is_read words (CommandLine (Mutator m Epoch)) h = ap entry_of h.0 ∙ rw (number_is (decimal m) m h.1 refl) refl
+said_is_read words (CommandLine (Mutator m request)) h = ap entry_of h.0 ∙ rw (number_is (decimal m) m h.1 refl, number_is _ _ h.2 refl) refl
 said_is_read words (CommandLine (Book Logs)) h = ap entry_of h
 said_is_read words (CommandLine (Book (Log l))) h = ap entry_of h.0 ∙ rw (number_is (decimal l) l h.1 refl) refl
 said_is_read words (CommandLine (Book Audit)) h = ap entry_of h

@@ -4,7 +4,7 @@ use Rattle.std.specs.Prelude.{◌↔◌}
 use Rattle.std.proofs.lemmas.Bool.{and_parts, le-leb, lt-leb, cond_both}
 use Rattle.std.proofs.lemmas.Bool.Decides.{nat_tests}
 use Rattle.far_text.specs.declared.text.TheConstants.{LONGEST_TEXT}
-use Rattle.far_text.specs.Command.{Command, Device, HeapLine, DeviceLine, CommandLine, Heap, Request, New, Open, On, Close, Where, Drop, Try, Epoch, Mutator, Book, Evacuator, Select, Mark, Wait, Evacuate, Abort, Round}
+use Rattle.far_text.specs.Command.{Command, Device, HeapLine, DeviceLine, CommandLine, Heap, Request, Where, Epoch, Mutator, Book, Evacuator, Select, Mark, Wait, Evacuate, Abort, Round}
 use Rattle.far_text.specs.Grammar.{Line, Skipped, Saying, Bad, beside, line_of, lines_of, trace_of}
 use Rattle.far_text.specs.HeapSought.{Found, NoHeap, HeapAt, found_at, heap_sought}
 use Rattle.far_text.specs.Split.{SplitTrace, NothingSplit, SplitHeap, threaded, onto_lines, threaded_onto, split_command, split_commands, with_lines, split_after, split_from, split_of}
@@ -15,14 +15,9 @@ use Rattle.far_text.proofs.TextLaws.{bad_beside, beside_is, is_beside, passed_is
 
 -- ---- threads
 own_from : (request : Request) → ((p : ℕ) → request ≢ Where p) → request ≢ Epoch → is_own request ≡ true
-own_from (New len structure) here now = refl
-own_from Open here now = refl
-own_from (On p how) here now = refl
-own_from Close here now = refl
 own_from (Where p) here now = absurd (here p refl)
-own_from (Drop p) here now = refl
-own_from (Try p) here now = refl
 own_from Epoch here now = absurd (now refl)
+own_from request here now = refl
 
 own_where : (request : Request) → is_own request ≡ true → (p : ℕ) → request ≢ Where p
 own_where request own p odd = let no : true ≡ false = sym own ∙ ap is_own odd in cc
@@ -46,11 +41,7 @@ thread_is mutators (Mutator m request) e =
     inl (m, request, refl, below m mutators h.1, own_where request h.0, own_epoch request h.0)
 thread_is mutators (Book inquiry) e = inr (inl (inquiry, refl))
 thread_is mutators (Evacuator (Round policy most turns)) e = inr (inr (policy, most, turns, refl))
-thread_is mutators (Evacuator (Select choice most)) e = absurd cc
-thread_is mutators (Evacuator (Mark count)) e = absurd cc
-thread_is mutators (Evacuator Wait) e = absurd cc
-thread_is mutators (Evacuator (Evacuate count)) e = absurd cc
-thread_is mutators (Evacuator Abort) e = absurd cc
+thread_is mutators (Evacuator step) e = absurd cc
 
 threaded_some : (mutators : ℕ) (c : Command) → HasThread mutators c → threaded mutators c ≡ Some c
 threaded_some mutators c has = rw (thread_said mutators c has) refl

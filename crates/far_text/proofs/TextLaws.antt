@@ -8,7 +8,7 @@ use Rattle.std.proofs.lemmas.List.Splits.{join_with_byte-slice_split}
 use Rattle.hex.proofs.HexLemmas.{decode_of-ok}
 use Rattle.far_text.specs.declared.hex_word.TheConstants.{LONGEST_LINE}
 use Rattle.far_text.specs.declared.text.TheConstants.{LONGEST_TEXT}
-use Rattle.far_text.specs.Command.{Command, Device, Entry, HeapLine, DeviceLine, CommandLine, Trace, Nothing, Heap, New, Open, On, Writes, Close, Where, Drop, Try, Epoch, Mutator, Book, Evacuator, By, Script, Select, Mark, Wait, Evacuate, Abort, Round}
+use Rattle.far_text.specs.Command.{Command, Device, Entry, HeapLine, DeviceLine, CommandLine, Trace, Nothing, Heap, On, Writes, Mutator, Evacuator, By, Script, Select, Round}
 use Rattle.far_text.specs.Grammar.{Line, Skipped, Saying, Bad, line_of, lines_of, line_words, is_plain, is_skipped, saying, entry_of, trace_of, onto, Sought, NoDevice, DeviceAt, device_at, device_sought, stands, beside, with_heap, read_after, read_command, read_commands, read_heap, read_lines}
 use Rattle.far_text.specs.TraceText.{Beside, IsPassed, Speaks, LinesSay, LinesAre, TextSays, FirstBad, HaveNone, MaySayDevice}
 use Rattle.far_text.specs.Says.{Says}
@@ -412,23 +412,11 @@ first_bad text n = cond_both (nat_lt LONGEST_TEXT (length text)) (Err 0) (read_l
 -- ---- bytes
 -- what words say to write is bytes
 words_write : (words : List (List ℕ)) (c : Command) → Says words (CommandLine c) → WritesBytes c
-words_write words (Mutator m (New len ds)) h = tt
-words_write words (Mutator m Open) h = tt
 words_write words (Mutator m (On p (Writes from bytes))) h = (decode_of-ok h.0 bytes h.5.0).3
-words_write words (Mutator m (On p how)) h = tt
-words_write words (Mutator m Close) h = tt
-words_write words (Mutator m (Where p)) h = tt
-words_write words (Mutator m (Drop p)) h = tt
-words_write words (Mutator m (Try p)) h = tt
-words_write words (Mutator m Epoch) h = tt
-words_write words (Book inquiry) h = tt
 words_write words (Evacuator (Select (By policy) most)) h = h.1
 words_write words (Evacuator (Select (Script logs) most)) h = (h.2.0, h.1)
-words_write words (Evacuator (Mark count)) h = tt
-words_write words (Evacuator Wait) h = tt
-words_write words (Evacuator (Evacuate count)) h = tt
-words_write words (Evacuator Abort) h = tt
 words_write words (Evacuator (Round policy most turns)) h = h.1
+words_write words c h = tt
 
 lines_write : (lines : List (List ℕ)) (cs : List Command) → LinesSay lines cs → AllWriteBytes cs
 lines_write [] [] h = tt

@@ -3,7 +3,7 @@ use Rattle.std.proofs.Common.{◌≡◌, ℕ, Bool, true, false, cond, Option, S
 use Rattle.std.proofs.lemmas.Bool.{cond_both}
 use Rattle.std.specs.Option.{option_map, option_and_then}
 use Rattle.std.proofs.lemmas.Option.{none-some, same_Some}
-use Rattle.far_text.specs.Command.{Command, Mutator, Book, Evacuator, Request, New, Open, On, Reads, Writes, Views, Close, Where, Drop, Try, Epoch, Step, Select, Mark, Wait, Evacuate, Abort, Round, as_command, as_request, as_inquiry, as_step, as_policy}
+use Rattle.far_text.specs.Command.{Command, Mutator, Book, Evacuator, Request, On, Writes, Step, Select, Round, as_command, as_request, as_inquiry, as_step, as_policy}
 use Rattle.far_text.specs.Spelled.{command_spelled, request_spelled, step_spelled, choice_spelled}
 use Rattle.far_text.specs.Grammar.{bytes_in, limited}
 use Rattle.far_text.specs.Split.{threaded}
@@ -12,9 +12,9 @@ use Rattle.far_text.specs.declared.command.TheConstants.{MOST_CHOSEN}
 use Rattle.far_text.specs.declared.command.Command.{Command as SpelledCommand}
 use Rattle.far_text.specs.declared.command.Command.TheVariants.{Mutator as SpelledMutator, Book as SpelledBook, Evacuator as SpelledEvacuator}
 use Rattle.far_text.specs.declared.command.Request.{Request as SpelledRequest}
-use Rattle.far_text.specs.declared.command.Request.TheVariants.{New as SpelledNew, Open as SpelledOpen, Write as SpelledWrite, Read as SpelledRead, Close as SpelledClose, Where as SpelledWhere, Drop as SpelledDrop, View as SpelledView, Try as SpelledTry, Epoch as SpelledEpoch}
+use Rattle.far_text.specs.declared.command.Request.TheVariants.{Write as SpelledWrite}
 use Rattle.far_text.specs.declared.command.Step.{Step as SpelledStep}
-use Rattle.far_text.specs.declared.command.Step.TheVariants.{Select as SpelledSelect, Mark as SpelledMark, Wait as SpelledWait, Evacuate as SpelledEvacuate, Abort as SpelledAbort, Round as SpelledRound}
+use Rattle.far_text.specs.declared.command.Step.TheVariants.{Select as SpelledSelect, Round as SpelledRound}
 
 -- what is made of a value is made of one
 mapped : {A B : Type 0} (f : A → B) (o : Option A) (y : B) → option_map f o ≡ Some y → (x : A) × (o ≡ Some x) × (f x ≡ y)
@@ -26,28 +26,17 @@ limited_some most o step = cond_both (nat_le most MOST_CHOSEN) o None (λ (x : O
 
 -- what is kept of a request is as much a mutator's own
 request_kept : (s : SpelledRequest) (request : Request) → request_spelled s ≡ Some request → is_own request ≡ is_own (as_request s)
-request_kept (SpelledNew len structure) request e = ap is_own (sym (same_Some (New len structure) request e))
-request_kept SpelledOpen request e = ap is_own (sym (same_Some Open request e))
 request_kept (SpelledWrite pointer from word) request e = ap is_own (sym (mapped (λ bytes. On pointer (Writes from bytes)) (bytes_in word.now) request e).2)
-request_kept (SpelledRead pointer from len) request e = ap is_own (sym (same_Some (On pointer (Reads from len)) request e))
-request_kept SpelledClose request e = ap is_own (sym (same_Some Close request e))
-request_kept (SpelledWhere pointer) request e = ap is_own (sym (same_Some (Where pointer) request e))
-request_kept (SpelledDrop pointer) request e = ap is_own (sym (same_Some (Drop pointer) request e))
-request_kept (SpelledView pointer) request e = ap is_own (sym (same_Some (On pointer Views) request e))
-request_kept (SpelledTry pointer) request e = ap is_own (sym (same_Some (Try pointer) request e))
-request_kept SpelledEpoch request e = ap is_own (sym (same_Some Epoch request e))
+request_kept s request e = ap is_own (sym (same_Some (as_request s) request e))
 
 -- and of a step as much a round
 step_kept : (s : SpelledStep) (step : Step) → step_spelled s ≡ Some step → is_round step ≡ is_round (as_step s)
 step_kept (SpelledSelect choice most) step e =
     ap is_round (sym (mapped (λ choice. Select choice most) (choice_spelled choice) step (limited_some most (option_map (λ choice. Select choice most) (choice_spelled choice)) step e)).2)
-step_kept (SpelledMark count) step e = ap is_round (sym (same_Some (Mark count) step e))
-step_kept SpelledWait step e = ap is_round (sym (same_Some Wait step e))
-step_kept (SpelledEvacuate count) step e = ap is_round (sym (same_Some (Evacuate count) step e))
-step_kept SpelledAbort step e = ap is_round (sym (same_Some Abort step e))
 step_kept (SpelledRound policy most turns) step e =
     let round = Round (as_policy policy) most turns in
     ap is_round (sym (same_Some round step (limited_some most (Some round) step e)))
+step_kept s step e = ap is_round (sym (same_Some (as_step s) step e))
 
 command_kept : (mutators : ℕ) (s : SpelledCommand) (c : Command) → command_spelled s ≡ Some c → has_thread mutators c ≡ has_thread mutators (as_command s)
 command_kept mutators (SpelledMutator m request) c e =

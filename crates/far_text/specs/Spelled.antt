@@ -1,7 +1,7 @@
 -- What the words of a line spell as they are read, the bytes of a write still in hex, and the logs of a script still printed: nothing, where these are no bytes, or no logs.
 use Rattle.std.specs.Prelude.{Option, Some}
 use Rattle.std.specs.Option.{option_map}
-use Rattle.far_text.specs.Command.{Command, Entry, HeapLine, DeviceLine, CommandLine, Mutator, Book, Request, New, Open, On, Reads, Writes, Views, Close, Where, Drop, Try, Epoch, Evacuator, Choice, By, Script, Step, Select, Mark, Wait, Evacuate, Abort, Round, as_device, as_inquiry, as_policy}
+use Rattle.far_text.specs.Command.{Command, Entry, HeapLine, DeviceLine, CommandLine, Mutator, Book, Request, On, Writes, Evacuator, Choice, By, Script, Step, Select, Round, as_device, as_inquiry, as_policy, as_request, as_step}
 use Rattle.far_text.specs.Cursor.{words_in}
 use Rattle.far_text.specs.Grammar.{bytes_in, logs_of, limited, Line, Skipped, saying}
 use Rattle.far_text.specs.declared.command.Choice.{Choice as SpelledChoice}
@@ -11,23 +11,15 @@ use Rattle.far_text.specs.declared.command.Command.TheVariants.{Mutator as Spell
 use Rattle.far_text.specs.declared.command.Entry.{Entry as SpelledEntry}
 use Rattle.far_text.specs.declared.command.Entry.TheVariants.{Heap as SpelledHeapLine, Device as SpelledDeviceLine, Command as SpelledCommandLine}
 use Rattle.far_text.specs.declared.command.Request.{Request as SpelledRequest}
-use Rattle.far_text.specs.declared.command.Request.TheVariants.{New as SpelledNew, Open as SpelledOpen, Write as SpelledWrite, Read as SpelledRead, Close as SpelledClose, Where as SpelledWhere, Drop as SpelledDrop, View as SpelledView, Try as SpelledTry, Epoch as SpelledEpoch}
+use Rattle.far_text.specs.declared.command.Request.TheVariants.{Write as SpelledWrite}
 use Rattle.far_text.specs.declared.command.Step.{Step as SpelledStep}
-use Rattle.far_text.specs.declared.command.Step.TheVariants.{Select as SpelledSelect, Mark as SpelledMark, Wait as SpelledWait, Evacuate as SpelledEvacuate, Abort as SpelledAbort, Round as SpelledRound}
+use Rattle.far_text.specs.declared.command.Step.TheVariants.{Select as SpelledSelect, Round as SpelledRound}
 use Rattle.far_text.specs.declared.line.Line.{Line as SpelledLine}
 use Rattle.far_text.specs.declared.line.Line.TheVariants.{Skipped as SpelledSkipped, Said as SpelledSaid}
 
 abbrev pub request_spelled : SpelledRequest → Option Request
-request_spelled (SpelledNew len structure) = Some (New len structure)
-request_spelled SpelledOpen = Some Open
 request_spelled (SpelledWrite pointer from word) = option_map (λ bytes. On pointer (Writes from bytes)) (bytes_in word.now)
-request_spelled (SpelledRead pointer from len) = Some (On pointer (Reads from len))
-request_spelled SpelledClose = Some Close
-request_spelled (SpelledWhere pointer) = Some (Where pointer)
-request_spelled (SpelledDrop pointer) = Some (Drop pointer)
-request_spelled (SpelledView pointer) = Some (On pointer Views)
-request_spelled (SpelledTry pointer) = Some (Try pointer)
-request_spelled SpelledEpoch = Some Epoch
+request_spelled request = Some (as_request request)
 
 abbrev pub choice_spelled : SpelledChoice → Option Choice
 choice_spelled (SpelledBy policy) = Some (By (as_policy policy))
@@ -35,11 +27,8 @@ choice_spelled (SpelledScript words) = option_map Script (logs_of (words_in word
 
 abbrev pub step_spelled : SpelledStep → Option Step
 step_spelled (SpelledSelect choice most) = limited most (option_map (λ choice. Select choice most) (choice_spelled choice))
-step_spelled (SpelledMark count) = Some (Mark count)
-step_spelled SpelledWait = Some Wait
-step_spelled (SpelledEvacuate count) = Some (Evacuate count)
-step_spelled SpelledAbort = Some Abort
 step_spelled (SpelledRound policy most turns) = limited most (Some (Round (as_policy policy) most turns))
+step_spelled step = Some (as_step step)
 
 abbrev pub command_spelled : SpelledCommand → Option Command
 command_spelled (SpelledMutator mutator request) = option_map (Mutator mutator) (request_spelled request)

@@ -39,13 +39,18 @@ fn ascii_len(text: &[u8]) -> Option<usize>
 // None where it is too long.
 #[inline(always)]
 fn comment_ends(text: &[u8], len: usize) -> Option<Option<&[u8]>>
+    // the text begins with #; its first `len` bytes are ASCII without a newline, and behind them is one, or the text's end
     requires some { 0 < length text.now }
     requires comment { slice_index text.now 0 ≡ 35 }
     requires bound { len ≤ length text.now }
     requires ascii { (k : ℕ) → k < len → slice_index text.now k < 128 }
     requires inside { (k : ℕ) → k < len → (slice_index text.now k == 10) ≡ false }
     requires ends { len < length text.now → slice_index text.now len ≡ 10 }
+
+    // `None`: the line is too long, and so a bad one
     ensures bad { IfNone result (line_of (first_line text.now) ≡ Bad) }
+
+    // else the line says nothing, and the answer is the text behind it, if there's any
     ensures line { IfSome result (λ _. line_of (first_line text.now) ≡ Skipped) }
     ensures lines { IfSome result (λ after. lines_left after ≡ lines_after_first text.now) }
     ensures rest { IfSome result (λ after. IfSome after (λ rest. rest.now ≡ drop (len + 1) text.now)) }

@@ -19,14 +19,7 @@ fn is_own(request: Request<'_>) -> bool
 {
     match request {
         Request::Where { .. } | Request::Epoch => false,
-        Request::New { .. }
-        | Request::Open
-        | Request::Write { .. }
-        | Request::Read { .. }
-        | Request::Close
-        | Request::Drop { .. }
-        | Request::View { .. }
-        | Request::Try { .. } => true,
+        _ => true,
     }
 }
 

@@ -1,10 +1,12 @@
 //! A whole run.
 
 ghost use Rattle.std.specs.Prelude.{◌≡◌, true, IfOk, IfSome, OnErr};
+ghost use Rattle.std.specs.Hash.DefaultHasher as sip;
 ghost use Rattle.far_private.specs.Heap.{IsOutside};
 ghost use Rattle.far_private.specs.Numbered.{IsNoPlace};
 ghost use Rattle.far_packed.specs.Causes.{OrMemory};
 ghost use Rattle.far_firsts.specs.Causes.{Refuses};
+ghost use Rattle.far_firsts.specs.Lines.{stamp_by};
 ghost use Rattle.far_firsts.specs.Tallies.{TellsCounts};
 ghost use Rattle.far_firsts.specs.Telling.{Tells};
 
@@ -28,7 +30,7 @@ pub struct Printed {
 }
 
 /// Prints each line of the input the first time it comes. Far objects are kept by the devices that `devices` makes; `honest` may be true only
-/// where these are proved so.
+/// where these are proved so. Where it isn't, a line is left out only after one of its length and its hash, begun with the seed.
 ///
 /// Refused before the first line: there is no memory, or no device.
 pub fn print_firsts<D: Device + Drop, M: MakeDevice<D> + Drop, R: Read, W: Write>(
@@ -42,7 +44,7 @@ pub fn print_firsts<D: Device + Drop, M: MakeDevice<D> + Drop, R: Read, W: Write
     output: &mut W,
 ) -> Result<Printed, Refused>
     requires { honest ≡ true → M.honest ≡ true }
-    ensures printed { IfOk result (λ p. IfSome (R.remaining input.old) (λ text. Tells room.now.longest (Refuses (OrMemory IsNoPlace) IsOutside honest) honest end p.end.lines p.end.why text (R.remaining input.new) (W.contents output.old) (W.contents output.new))) }
+    ensures printed { IfOk result (λ p. IfSome (R.remaining input.old) (λ text. Tells room.now.longest (Refuses (OrMemory IsNoPlace) IsOutside honest) honest (stamp_by (sip.write sip.initial seed) end) end p.end.lines p.end.why text (R.remaining input.new) (W.contents output.old) (W.contents output.new))) }
     ensures input { OnErr result (R.remaining input.new ≡ R.remaining input.old) }
     ensures output { OnErr result (W.contents output.new ≡ W.contents output.old) }
 {

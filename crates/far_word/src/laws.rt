@@ -62,6 +62,8 @@ pub fn packed_bytes()
 /// The sizes of a heap in numerals, what ties them, and what an object takes: as few words as hold its data bytes, and
 /// one for its header.
 pub fn sizes_are()
+    // a log is 512 words, in which an object of 4,088 bytes lies at most; a heap has 2 to 64 logs, 1 to 8 mutators, each with 256 cells, 16 jobs, up to
+    // 8 copiers, and epochs below 2^62
     ensures log_words { LOG_WORDS ≡ 512 }
     ensures log_bytes { LOG_BYTES ≡ 4096 }
     ensures last_at { LAST_AT ≡ 510 }
@@ -76,10 +78,12 @@ pub fn sizes_are()
     ensures most_copiers { MOST_COPIERS ≡ 8 }
     ensures epoch_end { EPOCH_END ≡ 2 ^ 62 }
 
+    // the pointers are all mutators' cells, the longest object fills a log, and a word has eight bytes
     ensures cells_of_all { POINTERS ≡ CELLS * MOST_MUTATORS }
     ensures longest_fills_log { size_of LONGEST ≡ LOG_WORDS }
     ensures words_of_eight_bytes { 8 * LOG_WORDS ≡ LOG_BYTES }
 
+    // an object takes as few words as hold its bytes, and one for its header, and fits into a log
     ensures words_hold_bytes { WordsHoldBytes }
     ensures header_is_added { HeaderIsAdded }
     ensures objects_fit { ObjectsFit }
@@ -88,12 +92,14 @@ pub fn sizes_are()
 /// The layout of a header word in numerals: the length in 24 bits, the data structure in the next 8, the pointer's number in
 /// the next 24, and the version 0xa2 in the highest 8. And that of version 1, with its sizes.
 pub fn header_is()
+    // of this heap: 24 bits of length, 8 of data structure, 24 of pointer, and 0xa2
     ensures len { (word : ℕ) → len_in Second word ≡ field word 0 24 }
     ensures ds { (word : ℕ) → ds_in Second word ≡ field word 24 8 }
     ensures pointer { (word : ℕ) → pointer_in Second word ≡ field word 32 24 }
     ensures version { (word : ℕ) → version_in word ≡ field word 56 8 }
     ensures word { (pointer len ds : ℕ) → head_word pointer len ds ≡ len + ds * 2 ^ 24 + pointer * 2 ^ 32 + 0xa2 * 2 ^ 56 }
 
+    // of version 1: 16 bits of length, 8 of data structure, 32 of pointer, and 0xa1; 1,016 bytes an object, 1,024 pointers, 128 words a log, 128 cells
     ensures len_v1 { (word : ℕ) → len_in First word ≡ field word 0 16 }
     ensures ds_v1 { (word : ℕ) → ds_in First word ≡ field word 16 8 }
     ensures pointer_v1 { (word : ℕ) → pointer_in First word ≡ field word 24 32 }
@@ -108,6 +114,7 @@ pub fn header_is()
 /// laws of words they fix where each field stands.
 #[tactic(auto, unfolding(crate::specs::Pointer::read_of, crate::specs::Header::head_of, crate::specs::Header::head_of_v1, crate::specs::Scope::scope_of, crate::specs::Job::job_of, crate::specs::Bytes::words_of, crate::specs::Bytes::bytes_of))]
 pub fn words_are()
+    // pointers: near, with marks, far and free, and words that are none; which bit is which mark
     ensures near { NearRowsHold }
     ensures marked { MarkedRowsHold }
     ensures far { FarRowsHold }
@@ -115,18 +122,22 @@ pub fn words_are()
     ensures no_pointer { PointersAreRefused }
     ensures mark_bits { MarkBitsStand }
 
+    // headers of this heap and of version 1, and words that are none
     ensures header { HeaderRowsHold }
     ensures no_header { HeadersAreRefused }
     ensures header_v1 { HeaderRowsHoldV1 }
     ensures no_header_v1 { HeadersAreRefusedV1 }
     ensures version { VersionRowsHold }
 
+    // scopes, and words that are none
     ensures scope { ScopeRowsHold }
     ensures no_scope { ScopesAreRefused }
 
+    // jobs, and words that are none
     ensures job { JobRowsHold }
     ensures no_job { JobsAreRefused }
 
+    // nine bytes in two words
     ensures bytes { NineBytesPack }
 {}
 

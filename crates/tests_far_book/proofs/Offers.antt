@@ -8,12 +8,12 @@ use Rattle.far_word.specs.declared.pointer.PtrWord.{PtrWord}
 use Rattle.far_word.specs.declared.pointer.PtrWord.TheVariants.{Free, Near, Far}
 use Rattle.far_word.specs.declared.sizes.TheConstants.{CELLS}
 use Rattle.far_word.specs.Pointer.{read_of}
-use Rattle.far_core.specs.declared.event.Kind.TheVariants.{Sealed}
-use Rattle.far_core.specs.events.Advance.{is_among}
-use Rattle.far_core.specs.state.Jobs.{near_place}
-use Rattle.far_core.specs.state.Law.{HasEvac, Law}
-use Rattle.far_core.specs.state.State.{State}
-use Rattle.far_core.proofs.Cells.{unused}
+use Rattle.far_events.specs.declared.event.Kind.TheVariants.{Sealed}
+use Rattle.far_events.specs.events.Advance.{is_among}
+use Rattle.far_events.specs.state.Jobs.{near_place}
+use Rattle.far_events.specs.state.Law.{HasEvac, Law}
+use Rattle.far_events.specs.state.State.{State}
+use Rattle.far_events.proofs.Cells.{unused}
 use Rattle.far_core.proofs.RoundFacts.{one_log_is_a_bit}
 use Rattle.far_hand.specs.Rounds.{MayChoose}
 use Rattle.far_book.specs.declared.home.Home.TheVariants as homes

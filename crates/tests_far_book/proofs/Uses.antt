@@ -10,13 +10,13 @@ use Rattle.std.proofs.lemmas.Bool.{false≢true}
 use Rattle.far_word.specs.declared.sizes.TheConstants.{CELLS, MOST_LOGS}
 use Rattle.far_word.specs.Pointer.{read_of}
 use Rattle.far_log.specs.declared.span.Span.{Span}
-use Rattle.far_core.specs.declared.shape.Shape.{Shape}
-use Rattle.far_core.specs.events.Advance.{is_among}
-use Rattle.far_core.specs.events.Naming.{is_dropped}
-use Rattle.far_core.specs.state.Law.{Law}
-use Rattle.far_core.specs.state.Opening.{opening}
-use Rattle.far_core.specs.state.Spans.{spans_of}
-use Rattle.far_core.specs.state.State.{State}
+use Rattle.far_events.specs.declared.shape.Shape.{Shape}
+use Rattle.far_events.specs.events.Advance.{is_among}
+use Rattle.far_events.specs.events.Naming.{is_dropped}
+use Rattle.far_events.specs.state.Law.{Law}
+use Rattle.far_events.specs.state.Opening.{opening}
+use Rattle.far_events.specs.state.Spans.{spans_of}
+use Rattle.far_events.specs.state.State.{State}
 use Rattle.far_book.specs.declared.home.Home.TheVariants.{Near, Far}
 use Rattle.far_hand.specs.Masked.{masked}
 use Rattle.far_hand.specs.Rounds.{MayChoose}

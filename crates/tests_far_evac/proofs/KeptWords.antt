@@ -12,19 +12,19 @@ use Rattle.far_word.specs.Bytes.{packed_word, with_word}
 use Rattle.far_word.specs.Laws.{WrittenIsRead}
 use Rattle.far_word.specs.Pointer.{read_of}
 use Rattle.far_word.specs.Sizes.{size_of, words_for}
-use Rattle.far_core.specs.declared.event.Event.TheVariants.{Store}
-use Rattle.far_core.specs.declared.event.Reply.{Reply}
-use Rattle.far_core.specs.declared.event.Reply.TheVariants.{Done}
-use Rattle.far_core.specs.events.Legal.{Legal}
-use Rattle.far_core.specs.events.Naming.{is_dropped}
+use Rattle.far_events.specs.declared.event.Event.TheVariants.{Store}
+use Rattle.far_events.specs.declared.event.Reply.{Reply}
+use Rattle.far_events.specs.declared.event.Reply.TheVariants.{Done}
+use Rattle.far_events.specs.events.Legal.{Legal}
+use Rattle.far_events.specs.events.Naming.{is_dropped}
 use Rattle.far_core.specs.laws.Agreement.{ObjectAgrees}
 use Rattle.far_core.specs.laws.Worlds.{ChangesKeep, ObjectsStand}
-use Rattle.far_core.specs.events.Copies.{Alike}
-use Rattle.far_core.specs.state.Law.{IsStored, Law, in_use}
+use Rattle.far_events.specs.events.Copies.{Alike}
+use Rattle.far_events.specs.state.Law.{IsStored, Law, in_use}
 use Rattle.far_core.specs.state.Room.{room}
-use Rattle.far_core.proofs.Put.{put_same}
-use Rattle.far_core.specs.state.State.{State}
-use Rattle.far_core.specs.world.Changes as change
+use Rattle.far_events.proofs.Put.{put_same}
+use Rattle.far_events.specs.state.State.{State}
+use Rattle.far_events.specs.events.Changes as change
 use Rattle.far_core.specs.world.Changes.{Step}
 use Rattle.far_core.specs.world.Happens.{Happens}
 use Rattle.far_core.specs.world.Steps.{with_bytes, with_home}

@@ -3,8 +3,8 @@
 
 ghost use Rattle.std.specs.Prelude.{◌≡◌, ◌*◌, ◌<◌, ℕ, true, IfSome};
 ghost use Rattle.far_word.specs.declared.sizes.TheConstants.{CELLS};
-ghost use Rattle.far_core.specs.declared.event.Event.{Event};
-ghost use Rattle.far_core.specs.events.Legal.{Legal};
+ghost use Rattle.far_events.specs.declared.event.Event.{Event};
+ghost use Rattle.far_events.specs.events.Legal.{Legal};
 ghost use Rattle.far_core.specs.state.CoreState.{core_state};
 ghost use Rattle.far_core.specs.world.WorldOf.{world_of};
 ghost use Rattle.tests_far_evac.specs.Kept.{HasWord, KeepsWords, is_of_scope};

@@ -9,8 +9,8 @@ use Rattle.far_word.specs.declared.pointer.PtrWord.{PtrWord}
 use Rattle.far_word.specs.declared.pointer.PtrWord.TheVariants.{Free, Near, Far}
 use Rattle.far_word.specs.declared.sizes.TheConstants.{CELLS}
 use Rattle.far_word.specs.Pointer.{read_of}
-use Rattle.far_core.specs.state.Law.{Law, in_use}
-use Rattle.far_core.specs.state.State.{State}
+use Rattle.far_events.specs.state.Law.{Law, in_use}
+use Rattle.far_events.specs.state.State.{State}
 use Rattle.far_core.specs.world.WorldOf.{world_of}
 use Rattle.far_core.proofs.ObjectFacts.{object_agrees}
 use Rattle.far_table.specs.First.{first_owner, seen_object}

@@ -5,9 +5,9 @@ use Rattle.std.specs.List.{range_with_len}
 use Rattle.std.proofs.lemmas.List.FromFn.{get_or-map-range_with_len, length-map-range_with_len, take-map-range_with_len}
 use Rattle.atomic_table.specs.Seated.{TableId}
 use Rattle.far_word.specs.declared.sizes.TheConstants.{CELLS, MOST_MUTATORS}
-use Rattle.far_core.specs.declared.shape.Shape.{Shape}
-use Rattle.far_core.specs.state.Opening.{opening}
-use Rattle.far_core.specs.state.State.{State}
+use Rattle.far_events.specs.declared.shape.Shape.{Shape}
+use Rattle.far_events.specs.state.Opening.{opening}
+use Rattle.far_events.specs.state.State.{State}
 use Rattle.far_core.specs.world.WorldOf.{world_of}
 use Rattle.far_core.proofs.KeepOwner.{closed_word}
 use Rattle.far_hand.specs.Masked.{masked}

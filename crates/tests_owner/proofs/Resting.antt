@@ -14,10 +14,10 @@ use Rattle.far_word.specs.declared.sizes.TheConstants.{CELLS, JOBS, MOST_COPIERS
 use Rattle.far_word.specs.Job.{job_of}
 use Rattle.far_word.specs.Pointer.{read_of}
 use Rattle.far_word.specs.Scope.{scope_of}
-use Rattle.far_core.specs.state.Law.{Law, in_use}
-use Rattle.far_core.specs.state.State.{State}
+use Rattle.far_events.specs.state.Law.{Law, in_use}
+use Rattle.far_events.specs.state.State.{State}
 use Rattle.far_core.specs.world.WorldOf.{world_of}
-use Rattle.far_core.proofs.KeepJobs.{unworded}
+use Rattle.far_events.proofs.JobPlaces.{unworded}
 use Rattle.far_core.proofs.KeepOwner.{closed_word}
 use Rattle.far_core.proofs.ObjectFacts.{object_agrees}
 use Rattle.far_table.specs.First.{first_copier, first_owner, open_epoch, seen_object}

@@ -2,8 +2,8 @@
 use Rattle.std.specs.Prelude.{◌≡◌, ◌/◌, ◌%◌, ◌<◌, ◌≤◌, ℕ, Bool, false, Option, Some, None, List, is_some, length, slice_index_or}
 use Rattle.atomic_table.specs.Seated.{TableId}
 use Rattle.far_word.specs.declared.sizes.TheConstants.{CELLS, MOST_MUTATORS}
-use Rattle.far_core.specs.declared.shape.Shape.{Shape}
-use Rattle.far_core.specs.state.Opening.{opening}
+use Rattle.far_events.specs.declared.shape.Shape.{Shape}
+use Rattle.far_events.specs.state.Opening.{opening}
 use Rattle.far_table.specs.View.{ObjectView, OwnerView}
 use Rattle.far_table.specs.First.{first_owner}
 use Rattle.far_table.specs.Seats.{Seated}

@@ -3,7 +3,7 @@
 ghost use Rattle.std.specs.Prelude.{◌≡◌, ◌*◌, ◌/◌, ◌%◌, ◌<◌, true, false, Some, None, IfSome, slice_index_or};
 ghost use Rattle.far_word.specs.Pointer.{read_of};
 ghost use Rattle.far_word.specs.declared.sizes.TheConstants.{CELLS, MOST_MUTATORS};
-ghost use Rattle.far_core.specs.events.Owners.{keeps_padding};
+ghost use Rattle.far_events.specs.events.Owners.{keeps_padding};
 ghost use Rattle.far_table.specs.Views.{said_len};
 ghost use Rattle.tests_owner.specs.Fits.{Fits, IsNew};
 

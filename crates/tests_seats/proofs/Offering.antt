@@ -12,24 +12,24 @@ use Rattle.far_word.specs.Header.{head_word}
 use Rattle.far_word.specs.Job.{job_of}
 use Rattle.far_word.specs.Pointer.{read_of}
 use Rattle.far_word.specs.Sizes.{size_of, words_for}
-use Rattle.far_core.specs.declared.event.Event.TheVariants.{Name, Offer}
-use Rattle.far_core.specs.declared.event.Kind.{Kind}
-use Rattle.far_core.specs.declared.event.Kind.TheVariants.{Free, Open, Sealed}
-use Rattle.far_core.specs.declared.naming.Naming.TheVariants.{Moves}
-use Rattle.far_core.specs.events.Copied.{WasCopied, copied_job, with_named}
-use Rattle.far_core.specs.events.Copies.{data_at}
-use Rattle.far_core.specs.events.Legal.{IsNext, Legal}
-use Rattle.far_core.specs.events.Naming.{IsNaming, is_stay}
-use Rattle.far_core.specs.events.NewSpans.{with_begun}
-use Rattle.far_core.specs.events.Offer.{after_offer, offered}
-use Rattle.far_core.specs.events.Quiet.{IsQuiet, is_quiet}
-use Rattle.far_core.specs.events.Step.{after}
-use Rattle.far_core.specs.events.namings.Moves.{MayMove, after_move}
-use Rattle.far_core.specs.state.Jobs.{near_place}
-use Rattle.far_core.specs.state.State.{State, addr, put}
-use Rattle.far_core.proofs.Copied.{copied_test}
-use Rattle.far_core.proofs.Guards.{parts}
-use Rattle.far_core.proofs.Put.{put_both, put_other, put_same}
+use Rattle.far_events.specs.declared.event.Event.TheVariants.{Name, Offer}
+use Rattle.far_events.specs.declared.event.Kind.{Kind}
+use Rattle.far_events.specs.declared.event.Kind.TheVariants.{Free, Open, Sealed}
+use Rattle.far_events.specs.declared.naming.Naming.TheVariants.{Moves}
+use Rattle.far_events.specs.events.Copied.{WasCopied, copied_job, with_named}
+use Rattle.far_events.specs.events.Copies.{data_at}
+use Rattle.far_events.specs.events.Legal.{IsNext, Legal}
+use Rattle.far_events.specs.events.Naming.{IsNaming, is_stay}
+use Rattle.far_events.specs.events.NewSpans.{with_begun}
+use Rattle.far_events.specs.events.Offer.{after_offer, offered}
+use Rattle.far_events.specs.events.Quiet.{IsQuiet, is_quiet}
+use Rattle.far_events.specs.events.Step.{after}
+use Rattle.far_events.specs.events.namings.Moves.{MayMove, after_move}
+use Rattle.far_events.specs.state.Jobs.{near_place}
+use Rattle.far_events.specs.state.State.{State, addr, put}
+use Rattle.far_events.proofs.Copied.{copied_test}
+use Rattle.far_events.proofs.Guards.{parts}
+use Rattle.far_events.proofs.Put.{put_both, put_other, put_same}
 use Rattle.far_hand.specs.FindsJob.{job_found}
 use Rattle.far_hand.specs.Quiet.{IsQuietAt}
 use Rattle.far_hand.proofs.Naming.{won_state}

@@ -6,10 +6,10 @@ use Rattle.far_word.specs.declared.pointer.Place.{Place}
 use Rattle.far_word.specs.declared.pointer.PtrWord.TheVariants.{Near}
 use Rattle.far_word.specs.declared.sizes.TheConstants.{JOBS, LOG_WORDS}
 use Rattle.far_word.specs.Pointer.{IsPtr, read_of}
-use Rattle.far_core.specs.declared.event.Kind.{Kind}
-use Rattle.far_core.specs.declared.event.Kind.TheVariants.{Free, Open}
-use Rattle.far_core.specs.events.Naming.{unmarked}
-use Rattle.far_core.specs.state.State.{State}
+use Rattle.far_events.specs.declared.event.Kind.{Kind}
+use Rattle.far_events.specs.declared.event.Kind.TheVariants.{Free, Open}
+use Rattle.far_events.specs.events.Naming.{unmarked}
+use Rattle.far_events.specs.state.State.{State}
 
 -- there is an owner; the first two logs are in the round, and the first owner was seen clear in it
 pub record RoundBy (mutators : ℕ) (round clear : ℕ → Bool) : Type 0 where

@@ -9,19 +9,19 @@ use Rattle.far_word.specs.declared.pointer.PtrWord.TheVariants.{Near}
 use Rattle.far_word.specs.Pointer.{read_of, without_owner_marks, word_of}
 use Rattle.far_word.proofs.MaskLaws.{IsPtr-without_owner_marks}
 use Rattle.far_word.proofs.PointerLaws.{read_back, read_says}
-use Rattle.far_core.specs.declared.event.Event.{Event}
-use Rattle.far_core.specs.declared.event.Kind.TheVariants.{Sealed}
-use Rattle.far_core.specs.declared.event.Event.TheVariants.{Close, Store}
-use Rattle.far_core.specs.events.Accesses.{heats, overwrites, with_cell}
-use Rattle.far_core.specs.events.Pin.{place_to_view}
-use Rattle.far_core.specs.events.Ranges.{after_events}
-use Rattle.far_core.specs.events.Step.{Fits, step_of}
-use Rattle.far_core.specs.state.Law.{Law}
-use Rattle.far_core.specs.state.State.{State}
-use Rattle.far_core.proofs.Accesses.{rest_is}
-use Rattle.far_core.proofs.Bounds.{some_of}
+use Rattle.far_events.specs.declared.event.Event.{Event}
+use Rattle.far_events.specs.declared.event.Kind.TheVariants.{Sealed}
+use Rattle.far_events.specs.declared.event.Event.TheVariants.{Close, Store}
+use Rattle.far_events.specs.events.Accesses.{heats, overwrites, with_cell}
+use Rattle.far_events.specs.events.Pin.{place_to_view}
+use Rattle.far_events.specs.events.Ranges.{after_events}
+use Rattle.far_events.specs.events.Step.{Fits, step_of}
+use Rattle.far_events.specs.state.Law.{Law}
+use Rattle.far_events.specs.state.State.{State}
+use Rattle.far_events.proofs.Rests.{rest_is}
+use Rattle.far_events.proofs.Bounds.{some_of}
 use Rattle.far_core.proofs.Keeps.{step_keeps}
-use Rattle.far_core.proofs.Put.{put_same}
+use Rattle.far_events.proofs.Put.{put_same}
 use Rattle.far_hand.specs.Makers.{is_others}
 use Rattle.far_hand.proofs.OthersWork.{step_changes}
 use Rattle.far_book.specs.declared.ledger.Ledger.{Ledger}

@@ -2,8 +2,8 @@
 use Rattle.std.proofs.Common.{◌≡◌, refl, Some, [], ◌∷◌}
 use Rattle.std.specs.Prelude.{Ok, Err, true}
 use Rattle.far_word.specs.declared.refused.Refused.TheVariants.{NoRoom}
-use Rattle.far_core.specs.declared.event.Event.TheVariants.{Store, Ask}
-use Rattle.far_core.specs.declared.event.Reply.TheVariants.{Done, Word, Refused}
+use Rattle.far_events.specs.declared.event.Event.TheVariants.{Store, Ask}
+use Rattle.far_events.specs.declared.event.Reply.TheVariants.{Done, Word, Refused}
 use Rattle.far_word.specs.declared.mark.Mark.TheVariants.{Dropped}
 use Rattle.far_book.specs.book.Actions.{Evicts, Fetches, Looks, Owns, Places, Retires, last_stored}
 

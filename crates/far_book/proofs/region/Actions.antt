@@ -11,30 +11,31 @@ use Rattle.far_word.specs.Bytes.{packed_word, with_word}
 use Rattle.far_word.specs.Pointer.{read_of}
 use Rattle.far_word.specs.Sizes.{size_of, words_for}
 use Rattle.far_word.proofs.ByteLaws.{bytes_of-zeros, length-bytes_of, length-with_word, packs_back, read_other, read_written}
-use Rattle.far_core.specs.declared.event.Event.{Event}
-use Rattle.far_core.specs.declared.event.Event.TheVariants.{ReadEpoch, Open, Pin, Load, Store, Soil, Close, Adopt, Ask, Get, Clear, Advance, Look}
-use Rattle.far_core.specs.declared.event.Event.TheVariants as events
-use Rattle.far_core.specs.declared.event.Reply.{Reply}
-use Rattle.far_core.specs.declared.event.Reply.TheVariants.{Refused, Word}
-use Rattle.far_core.specs.events.Copies.{Alike}
-use Rattle.far_core.specs.events.Naming.{is_dropped}
-use Rattle.far_core.specs.events.Owners.{data_word}
-use Rattle.far_core.specs.events.Quiet.{has_move}
-use Rattle.far_core.specs.events.Step.{after, answer, change_of, is_legal, Fits}
-use Rattle.far_core.specs.state.Law.{IsStored, Law}
+use Rattle.far_events.specs.declared.event.Event.{Event}
+use Rattle.far_events.specs.declared.event.Event.TheVariants.{ReadEpoch, Open, Pin, Load, Store, Soil, Close, Adopt, Ask, Get, Clear, Advance, Look}
+use Rattle.far_events.specs.declared.event.Event.TheVariants as events
+use Rattle.far_events.specs.declared.event.Reply.{Reply}
+use Rattle.far_events.specs.declared.event.Reply.TheVariants.{Refused, Word}
+use Rattle.far_events.specs.events.Copies.{Alike}
+use Rattle.far_events.specs.events.Naming.{is_dropped}
+use Rattle.far_events.specs.events.Owners.{data_word}
+use Rattle.far_events.specs.events.Quiet.{has_move}
+use Rattle.far_events.specs.events.Step.{after, answer, change_of, is_legal, Fits}
+use Rattle.far_events.specs.state.Law.{IsStored, Law}
 use Rattle.far_core.specs.state.Room.{room}
-use Rattle.far_core.specs.state.State.{State, addr, put}
-use Rattle.far_core.specs.world.Changes.{Change, Step, StepOf, Stays}
-use Rattle.far_core.specs.world.Changes as change
+use Rattle.far_events.specs.state.State.{State, addr, put}
+use Rattle.far_events.specs.events.Changes.{Change, Stays}
+use Rattle.far_core.specs.world.Changes.{Step, StepOf}
+use Rattle.far_events.specs.events.Changes as change
 use Rattle.far_core.specs.world.Happens.{Happens}
 use Rattle.far_core.specs.world.Runs.{Passes}
 use Rattle.far_core.specs.world.Steps.{with_bytes, with_home}
 use Rattle.far_core.specs.world.World.{World, Object, Group, FarSide}
 use Rattle.far_core.specs.world.WorldOf.{object_of, world_of}
-use Rattle.far_core.proofs.Cells.{unused}
+use Rattle.far_events.proofs.Cells.{unused}
 use Rattle.far_core.proofs.Owed.{replies}
 use Rattle.far_core.proofs.Owing.{does, is_fact, is_test, keeps}
-use Rattle.far_core.proofs.Put.{put_other, put_same}
+use Rattle.far_events.proofs.Put.{put_other, put_same}
 use Rattle.far_core.proofs.Steps.{agrees, happens}
 use Rattle.far_core.proofs.WorldLaws.{changes_keep, objects_stand}
 use Rattle.far_core.proofs.Worlds.{here_now}

@@ -1,10 +1,10 @@
 -- The book's calls seal logs behind those that were sealed before.
 use Rattle.std.proofs.Common.{◌≡◌, ◌∙◌, ℕ, ap, refl}
-use Rattle.far_core.specs.declared.event.Kind.{Kind}
-use Rattle.far_core.specs.declared.event.Kind.TheVariants.{Open, Sealed}
-use Rattle.far_core.specs.events.Offer.{after_offer}
-use Rattle.far_core.specs.state.State.{put}
-use Rattle.far_core.proofs.Put.{put_other, put_same}
+use Rattle.far_events.specs.declared.event.Kind.{Kind}
+use Rattle.far_events.specs.declared.event.Kind.TheVariants.{Open, Sealed}
+use Rattle.far_events.specs.events.Offer.{after_offer}
+use Rattle.far_events.specs.state.State.{put}
+use Rattle.far_events.proofs.Put.{put_other, put_same}
 use Rattle.far_book.specs.book.Ages.{FetchingSealsBehind, MovingSealsBehind, OfferingSealsBehind, PlacingSealsBehind}
 use Rattle.far_book.specs.book.Effects.{fetched, moved, placed}
 use Rattle.far_book.specs.book.Offering.{offered, offered_of, with_ends}

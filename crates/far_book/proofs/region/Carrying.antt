@@ -12,19 +12,19 @@ use Rattle.far_word.specs.Mark.{marks_with, position}
 use Rattle.far_word.specs.Pointer.{IsPtr, read_of}
 use Rattle.far_word.specs.Sizes.{size_of}
 use Rattle.far_word.proofs.PointerLaws.{read_back, read_says, with_mark_fits, with_mark_read, word_fits}
-use Rattle.far_core.specs.declared.event.Event.TheVariants as events
-use Rattle.far_core.specs.declared.naming.Naming.TheVariants.{Stays}
-use Rattle.far_core.specs.events.Copies.{data_at}
-use Rattle.far_core.specs.events.Legal.{Legal}
-use Rattle.far_core.specs.events.Naming.{is_dropped, no_marks, unmarked}
-use Rattle.far_core.specs.events.NewSpans.{with_span}
+use Rattle.far_events.specs.declared.event.Event.TheVariants as events
+use Rattle.far_events.specs.declared.naming.Naming.TheVariants.{Stays}
+use Rattle.far_events.specs.events.Copies.{data_at}
+use Rattle.far_events.specs.events.Legal.{Legal}
+use Rattle.far_events.specs.events.Naming.{is_dropped, no_marks, unmarked}
+use Rattle.far_events.specs.events.NewSpans.{with_span}
 use Rattle.far_core.specs.laws.Rooms.{IsRoom, RoomIs}
-use Rattle.far_core.specs.state.Law.{Law}
+use Rattle.far_events.specs.state.Law.{Law}
 use Rattle.far_core.specs.state.Room.{room}
-use Rattle.far_core.specs.state.State.{State, put}
-use Rattle.far_core.proofs.Cells.{map_mark}
+use Rattle.far_events.specs.state.State.{State, put}
+use Rattle.far_events.proofs.Cells.{map_mark}
 use Rattle.far_core.proofs.Owing.{keeps}
-use Rattle.far_core.proofs.Put.{put_same}
+use Rattle.far_events.proofs.Put.{put_same}
 use Rattle.far_core.proofs.RoomLaws.{room_right}
 use Rattle.far_book.specs.declared.ledger.Filled.{Filled}
 use Rattle.far_book.specs.declared.ledger.Ledger.{Ledger}

@@ -10,18 +10,18 @@ use Rattle.far_word.specs.Header.{head_word}
 use Rattle.far_word.specs.Pointer.{IsPtr, read_of}
 use Rattle.far_word.specs.Sizes.{size_of, words_for}
 use Rattle.far_word.proofs.PointerLaws.{read_back}
-use Rattle.far_core.specs.declared.event.Event.TheVariants as events
-use Rattle.far_core.specs.declared.naming.Naming.TheVariants as naming
-use Rattle.far_core.specs.events.Copies.{Alike, data_at}
-use Rattle.far_core.specs.events.Legal.{IsNext}
-use Rattle.far_core.specs.events.namings.Fetches.{words_stored}
-use Rattle.far_core.specs.events.Naming.{is_dropped, no_marks}
-use Rattle.far_core.specs.events.Ranges.{with_row}
-use Rattle.far_core.specs.events.Step.{after}
-use Rattle.far_core.specs.state.Law.{is_dirty}
-use Rattle.far_core.specs.state.State.{State, put, addr}
-use Rattle.far_core.proofs.Put.{put_same, put_other}
-use Rattle.far_core.proofs.Rows.{row_in, row_out, row_is}
+use Rattle.far_events.specs.declared.event.Event.TheVariants as events
+use Rattle.far_events.specs.declared.naming.Naming.TheVariants as naming
+use Rattle.far_events.specs.events.Copies.{Alike, data_at}
+use Rattle.far_events.specs.events.Legal.{IsNext}
+use Rattle.far_events.specs.events.namings.Fetches.{words_stored}
+use Rattle.far_events.specs.events.Naming.{is_dropped, no_marks}
+use Rattle.far_events.specs.events.Ranges.{with_row}
+use Rattle.far_events.specs.events.Step.{after}
+use Rattle.far_events.specs.state.Law.{is_dirty}
+use Rattle.far_events.specs.state.State.{State, put, addr}
+use Rattle.far_events.proofs.Put.{put_same, put_other}
+use Rattle.far_events.proofs.Rows.{row_in, row_out, row_is}
 use Rattle.far_hand.specs.Finds.{Finds, body_of}
 use Rattle.far_book.specs.book.Effects.{fetched, fetched_of, near_word, with_written_span}
 use Rattle.far_book.specs.book.Placeable.{IsAbsent}

@@ -8,18 +8,18 @@ use Rattle.far_word.specs.Header.{IsHead, head_of, head_word}
 use Rattle.far_word.specs.Pointer.{IsPtr, read_of}
 use Rattle.far_word.specs.Sizes.{size_of, words_for}
 use Rattle.far_word.proofs.PointerLaws.{read_says}
-use Rattle.far_core.specs.events.Copies.{data_at}
-use Rattle.far_core.specs.declared.event.Event.TheVariants as events
-use Rattle.far_core.specs.events.Legal.{Legal}
-use Rattle.far_core.specs.events.Naming.{no_marks}
-use Rattle.far_core.specs.events.Ranges.{with_row}
-use Rattle.far_core.specs.state.Law.{head_len}
-use Rattle.far_core.specs.state.State.{State, put, addr}
-use Rattle.far_core.proofs.Bounds.{near_inside, span_len}
-use Rattle.far_core.proofs.NewSpans.{at_tail}
+use Rattle.far_events.specs.events.Copies.{data_at}
+use Rattle.far_events.specs.declared.event.Event.TheVariants as events
+use Rattle.far_events.specs.events.Legal.{Legal}
+use Rattle.far_events.specs.events.Naming.{no_marks}
+use Rattle.far_events.specs.events.Ranges.{with_row}
+use Rattle.far_events.specs.state.Law.{head_len}
+use Rattle.far_events.specs.state.State.{State, put, addr}
+use Rattle.far_events.proofs.Bounds.{near_inside, span_len}
+use Rattle.far_events.proofs.NewSpans.{at_tail}
 use Rattle.far_core.proofs.Observations.{in_range}
-use Rattle.far_core.proofs.Put.{put_both, put_same, put_other}
-use Rattle.far_core.proofs.Rows.{row_in, row_last}
+use Rattle.far_events.proofs.Put.{put_both, put_same, put_other}
+use Rattle.far_events.proofs.Rows.{row_in, row_last}
 use Rattle.far_hand.specs.Known.{IsKnown, IsPaddedAt}
 use Rattle.far_hand.specs.Quiet.{IsQuietAt, is_quiet}
 use Rattle.far_book.specs.book.Moving.{MayCopy, Copied, Copying}

@@ -5,11 +5,11 @@ use Rattle.far_word.specs.declared.pointer.PtrWord.TheVariants.{Near}
 use Rattle.far_word.specs.Pointer.{IsPtr, read_of}
 use Rattle.far_word.specs.Sizes.{size_of}
 use Rattle.far_word.proofs.PointerLaws.{read_back}
-use Rattle.far_core.specs.events.Naming.{is_dropped, no_marks, unmarked}
-use Rattle.far_core.specs.state.Law.{Law}
-use Rattle.far_core.specs.state.State.{State}
+use Rattle.far_events.specs.events.Naming.{is_dropped, no_marks, unmarked}
+use Rattle.far_events.specs.state.Law.{Law}
+use Rattle.far_events.specs.state.State.{State}
 use Rattle.far_core.proofs.NewSpans.{takes_span}
-use Rattle.far_core.proofs.Put.{put_same, put_other}
+use Rattle.far_events.proofs.Put.{put_same, put_other}
 use Rattle.far_book.specs.book.Effects.{near_word, placed, retired, with_blank_span}
 use Rattle.far_book.specs.book.Laws.{IsPlaced, IsFreed}
 use Rattle.far_book.proofs.region.Coming.{header, stands, written_outside}

@@ -8,13 +8,13 @@ use Rattle.far_word.specs.Bytes.{bytes_of}
 use Rattle.far_word.specs.Pointer.{IsPtr, read_of}
 use Rattle.far_word.specs.Sizes.{words_for}
 use Rattle.far_word.proofs.PointerLaws.{read_back}
-use Rattle.far_core.specs.events.Copies.{data_at}
-use Rattle.far_core.specs.declared.naming.Naming.TheVariants.{Evicts}
-use Rattle.far_core.specs.events.Naming.{IsNaming, is_dropped, no_marks}
-use Rattle.far_core.specs.events.namings.Evicts.{with_kept}
-use Rattle.far_core.specs.state.Law.{IsStored}
-use Rattle.far_core.specs.state.State.{State, put, addr}
-use Rattle.far_core.proofs.Put.{put_same}
+use Rattle.far_events.specs.events.Copies.{data_at}
+use Rattle.far_events.specs.declared.naming.Naming.TheVariants.{Evicts}
+use Rattle.far_events.specs.events.Naming.{IsNaming, is_dropped, no_marks}
+use Rattle.far_events.specs.events.namings.Evicts.{with_kept}
+use Rattle.far_events.specs.state.Law.{IsStored}
+use Rattle.far_events.specs.state.State.{State, put, addr}
+use Rattle.far_events.proofs.Put.{put_same}
 use Rattle.far_hand.specs.Finds.{Finds, marks_in}
 use Rattle.far_hand.specs.Quiet.{IsQuietNear, is_quiet}
 use Rattle.far_word.specs.declared.sizes.TheConstants.{CELLS}

@@ -6,13 +6,14 @@ use Rattle.far_word.specs.declared.pointer.PtrWord.TheVariants.{Near, Far}
 use Rattle.far_word.specs.Pointer.{IsPtr, read_of}
 use Rattle.far_word.specs.Sizes.{words_for}
 use Rattle.far_word.proofs.PointerLaws.{read_says, word_fits}
-use Rattle.far_core.specs.declared.naming.Naming.TheVariants as naming
-use Rattle.far_core.specs.events.Naming.{naming_of, no_marks, is_dropped}
-use Rattle.far_core.specs.state.Law.{Law}
-use Rattle.far_core.specs.state.State.{State, addr}
-use Rattle.far_core.specs.world.Changes.{GoesFar, Step}
+use Rattle.far_events.specs.declared.naming.Naming.TheVariants as naming
+use Rattle.far_events.specs.events.Naming.{naming_of, no_marks, is_dropped}
+use Rattle.far_events.specs.state.Law.{Law}
+use Rattle.far_events.specs.state.State.{State, addr}
+use Rattle.far_events.specs.events.Changes.{GoesFar}
+use Rattle.far_core.specs.world.Changes.{Step}
 use Rattle.far_core.specs.world.WorldOf.{world_of}
-use Rattle.far_core.proofs.Put.{put_other, put_same}
+use Rattle.far_events.proofs.Put.{put_other, put_same}
 use Rattle.far_book.specs.book.Effects.{evicted_of, far_word}
 use Rattle.far_book.specs.book.Evicting.{IsQuietIn}
 use Rattle.far_book.specs.book.Laws.{EvictingIsLegal, IsEvicted}

@@ -16,23 +16,23 @@ use Rattle.far_word.specs.Sizes.{bytes_taken, size_of, words_for}
 use Rattle.far_word.proofs.ByteLaws.{bytes_of-same}
 use Rattle.far_word.proofs.PointerLaws.{read_back, read_says, word_fits}
 use Rattle.far_log.specs.Spans.{taken_by}
-use Rattle.far_core.specs.declared.event.Event.TheVariants as events
-use Rattle.far_core.specs.declared.naming.Naming.TheVariants as naming
-use Rattle.far_core.specs.events.Copies.{data_at}
-use Rattle.far_core.specs.events.Legal.{Legal}
-use Rattle.far_core.specs.events.Naming.{IsNaming, is_dropped, naming_of, no_marks}
-use Rattle.far_core.specs.events.namings.Evicts.{with_kept}
-use Rattle.far_core.specs.events.Quiet.{IsQuiet, is_quiet_cell}
-use Rattle.far_core.specs.events.Step.{after}
+use Rattle.far_events.specs.declared.event.Event.TheVariants as events
+use Rattle.far_events.specs.declared.naming.Naming.TheVariants as naming
+use Rattle.far_events.specs.events.Copies.{data_at}
+use Rattle.far_events.specs.events.Legal.{Legal}
+use Rattle.far_events.specs.events.Naming.{IsNaming, is_dropped, naming_of, no_marks}
+use Rattle.far_events.specs.events.namings.Evicts.{with_kept}
+use Rattle.far_events.specs.events.Quiet.{IsQuiet, is_quiet_cell}
+use Rattle.far_events.specs.events.Step.{after}
 use Rattle.far_core.specs.laws.Observed.{live_bytes}
-use Rattle.far_core.specs.state.Law.{Heads, IsStored, Law, StoresBack, head_len, is_dirty}
-use Rattle.far_core.specs.state.Spans.{is_live, names_place, spans_of}
-use Rattle.far_core.specs.state.State.{State, put, addr}
-use Rattle.far_core.proofs.Bounds.{near_inside, span_len}
-use Rattle.far_core.proofs.Cells.{unused}
+use Rattle.far_events.specs.state.Law.{Heads, IsStored, Law, StoresBack, head_len, is_dirty}
+use Rattle.far_events.specs.state.Spans.{is_live, names_place, spans_of}
+use Rattle.far_events.specs.state.State.{State, put, addr}
+use Rattle.far_events.proofs.Bounds.{near_inside, span_len}
+use Rattle.far_events.proofs.Cells.{unused}
 use Rattle.far_core.proofs.Owing.{keeps}
-use Rattle.far_core.proofs.Put.{put_both, put_old, put_same, put_two}
-use Rattle.far_core.proofs.Quieting.{quiet_fact}
+use Rattle.far_events.proofs.Put.{put_both, put_old, put_same, put_two}
+use Rattle.far_events.proofs.Quieting.{quiet_fact}
 use Rattle.far_device.specs.Contents.{KeepsOthers}
 use Rattle.far_device.specs.Faults.{is_fault}
 use Rattle.far_book.specs.declared.ledger.Filled.{Filled}

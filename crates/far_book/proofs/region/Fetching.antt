@@ -10,13 +10,13 @@ use Rattle.far_word.specs.Bytes.{bytes_of, packed_word}
 use Rattle.far_word.specs.Pointer.{IsPtr, read_of}
 use Rattle.far_word.specs.Sizes.{size_of, words_for}
 use Rattle.far_word.proofs.PointerLaws.{read_says}
-use Rattle.far_core.specs.events.Copies.{Alike}
-use Rattle.far_core.specs.events.Naming.{is_dropped}
-use Rattle.far_core.specs.state.Law.{IsStored}
+use Rattle.far_events.specs.events.Copies.{Alike}
+use Rattle.far_events.specs.events.Naming.{is_dropped}
+use Rattle.far_events.specs.state.Law.{IsStored}
 use Rattle.far_core.specs.state.Room.{room}
-use Rattle.far_core.specs.state.Spans.{names_place}
-use Rattle.far_core.specs.state.State.{State}
-use Rattle.far_core.proofs.Put.{put_same}
+use Rattle.far_events.specs.state.Spans.{names_place}
+use Rattle.far_events.specs.state.State.{State}
+use Rattle.far_events.proofs.Put.{put_same}
 use Rattle.far_book.specs.declared.ledger.Ledger.{Ledger}
 use Rattle.far_hand.specs.Finds.{Finds}
 use Rattle.far_hand.specs.Known.{Forgets}

@@ -9,17 +9,16 @@ use Rattle.far_word.specs.declared.pointer.PtrWord.TheVariants.{Free, Near, Far}
 use Rattle.far_word.specs.Pointer.{read_of, names_object, near_fits, near_of, far_fits, far_of}
 use Rattle.far_word.specs.Mark.{field, is_set, marks_of}
 use Rattle.far_log.specs.Spans.{taken_by}
-use Rattle.far_core.specs.events.Naming.{is_dropped}
+use Rattle.far_events.specs.events.Naming.{is_dropped}
 use Rattle.far_core.specs.laws.Observed.{live_bytes}
-use Rattle.far_core.specs.state.Law.{Law, HasEvac}
-use Rattle.far_core.specs.state.Spans.{spans_of, is_live, names_place}
-use Rattle.far_core.specs.state.State.{State, put}
-use Rattle.far_core.proofs.Cells.{Remarked, unused}
-use Rattle.far_core.proofs.Cells as cells
+use Rattle.far_events.specs.state.Law.{Law, HasEvac, is_dirty}
+use Rattle.far_events.specs.state.Spans.{spans_of, is_live, names_place}
+use Rattle.far_events.specs.state.State.{State, put}
+use Rattle.far_events.proofs.Cells.{Remarked, unused}
+use Rattle.far_events.proofs.Cells as cells
 use Rattle.far_core.proofs.Frames.{law_with_cell_marks}
-use Rattle.far_core.proofs.Put.{put_both, put_old}
+use Rattle.far_events.proofs.Put.{put_both, put_old}
 use Rattle.far_book.specs.declared.ledger.Ledger.{Ledger}
-use Rattle.far_core.specs.state.Law.{is_dirty}
 use Rattle.far_book.proofs.region.Dirt.{up_by}
 use Rattle.far_hand.specs.Finds.{Finds, body_of, marks_in}
 use Rattle.far_book.specs.book.Ledger.{Notes}

@@ -8,11 +8,11 @@ use Rattle.far_word.specs.declared.job.JobWord.TheVariants.{Empty, Offered, Take
 use Rattle.far_word.specs.Job.{job_of, job_word}
 use Rattle.far_word.specs.Pointer.{read_of}
 use Rattle.far_word.proofs.JobLaws.{job_says}
-use Rattle.far_core.specs.events.Collect.{collected}
-use Rattle.far_core.specs.events.Step.{after}
-use Rattle.far_core.specs.state.Jobs.{is_finished, job_at, job_said}
-use Rattle.far_core.specs.state.State.{State}
-use Rattle.far_core.proofs.Put.{put_old, put_same}
+use Rattle.far_events.specs.events.Collect.{collected}
+use Rattle.far_events.specs.events.Step.{after}
+use Rattle.far_events.specs.state.Jobs.{is_finished, job_at, job_said}
+use Rattle.far_events.specs.state.State.{State}
+use Rattle.far_events.proofs.Put.{put_old, put_same}
 use Rattle.far_hand.specs.Finds.{Finds}
 use Rattle.far_hand.specs.FindsJob.{FindsJob, job_found}
 use Rattle.far_hand.specs.Known.{Forgets}

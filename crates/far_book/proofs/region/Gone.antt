@@ -5,7 +5,7 @@ use Rattle.std.proofs.lemmas.List.{append-nil, length-map, length-take-le, take_
 use Rattle.std.proofs.lemmas.List.Elements.{filter-append}
 use Rattle.std.proofs.lemmas.List.Filters.{length-filter_both}
 use Rattle.far_log.specs.declared.row.LogRow.{LogRow}
-use Rattle.far_core.specs.state.State.{State}
+use Rattle.far_events.specs.state.State.{State}
 use Rattle.far_book.specs.declared.number_set.NumberSet.{NumberSet}
 use Rattle.far_book.specs.book.NumberSet.{has}
 use Rattle.far_book.specs.book.Order.{still_in}

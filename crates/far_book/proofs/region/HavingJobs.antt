@@ -6,11 +6,11 @@ use Rattle.far_word.specs.declared.job.Job.{Job}
 use Rattle.far_word.specs.declared.pointer.Place.{Place}
 use Rattle.far_word.specs.declared.sizes.TheConstants.{JOBS}
 use Rattle.far_word.specs.Pointer.{read_of}
-use Rattle.far_core.specs.events.Copied.{is_place}
-use Rattle.far_core.specs.state.Jobs.{job_at, near_place}
-use Rattle.far_core.specs.state.State.{State}
-use Rattle.far_core.proofs.Guards.{parts}
-use Rattle.far_core.proofs.KeepJobs.{job_low}
+use Rattle.far_events.specs.events.Copied.{is_place}
+use Rattle.far_events.specs.state.Jobs.{job_at, near_place}
+use Rattle.far_events.specs.state.State.{State}
+use Rattle.far_events.proofs.Guards.{parts}
+use Rattle.far_events.proofs.JobPlaces.{job_low}
 use Rattle.far_core.proofs.events.Look.{or_right}
 use Rattle.far_book.specs.declared.ledger.Ledger.{Ledger}
 use Rattle.far_book.specs.book.Jobs.{HasJob, copies_from, has_job, has_job_at, is_good, noted_at, noted_of, some_copies}

@@ -4,9 +4,9 @@ use Rattle.far_word.specs.declared.pointer.Place.{Place}
 use Rattle.far_word.specs.declared.pointer.PtrWord.TheVariants.{Free, Near}
 use Rattle.far_word.specs.Pointer.{read_of}
 use Rattle.far_word.proofs.PointerLaws.{read_back}
-use Rattle.far_core.specs.events.Naming.{is_dropped, unmarked}
-use Rattle.far_core.specs.state.State.{State, put}
-use Rattle.far_core.proofs.Cells.{unused}
+use Rattle.far_events.specs.events.Naming.{is_dropped, unmarked}
+use Rattle.far_events.specs.state.State.{State, put}
+use Rattle.far_events.proofs.Cells.{unused}
 use Rattle.far_device.specs.Contents.{KeepsOthers}
 use Rattle.far_book.specs.declared.ledger.Ledger.{Ledger}
 use Rattle.far_hand.specs.Finds.{Finds}

@@ -13,15 +13,15 @@ use Rattle.far_word.specs.Header.{head_of}
 use Rattle.far_word.specs.Job.{job_of}
 use Rattle.far_word.proofs.JobLaws.{job_says}
 use Rattle.far_log.specs.Spans.{len_in, pointer_in}
-use Rattle.far_core.specs.events.Clear.{round_left}
-use Rattle.far_core.specs.events.Get.{IsUncopied}
-use Rattle.far_core.specs.state.Jobs.{job_at, job_said}
-use Rattle.far_core.specs.state.Opening.{no_copying}
-use Rattle.far_core.specs.state.Law.{Law}
-use Rattle.far_core.specs.state.State.{Copying, State, addr, put}
-use Rattle.far_core.proofs.KeepJobs.{job_low, unworded}
+use Rattle.far_events.specs.events.Clear.{round_left}
+use Rattle.far_events.specs.events.Get.{IsUncopied}
+use Rattle.far_events.specs.state.Jobs.{job_at, job_said}
+use Rattle.far_events.specs.state.Opening.{no_copying}
+use Rattle.far_events.specs.state.Law.{Law}
+use Rattle.far_events.specs.state.State.{Copying, State, addr, put}
+use Rattle.far_events.proofs.JobPlaces.{job_low, unworded}
 use Rattle.far_core.proofs.events.Look.{or_right}
-use Rattle.far_core.proofs.Put.{put_other}
+use Rattle.far_events.proofs.Put.{put_other}
 use Rattle.far_book.specs.declared.jobs.Jobs.{Jobs}
 use Rattle.far_book.specs.declared.jobs.Noted.{Noted}
 use Rattle.far_book.specs.declared.ledger.Ledger.{Ledger}

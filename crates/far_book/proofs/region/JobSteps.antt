@@ -8,18 +8,19 @@ use Rattle.far_word.specs.declared.job.JobWord.TheVariants.{Empty, Offered, Take
 use Rattle.far_word.specs.declared.sizes.TheConstants.{JOBS}
 use Rattle.far_word.specs.Job.{job_of}
 use Rattle.far_word.specs.Sizes.{size_of, words_for}
-use Rattle.far_core.specs.declared.event.Event.TheVariants as events
-use Rattle.far_core.specs.events.Collect.{collected, is_loose}
-use Rattle.far_core.specs.events.Legal.{Legal}
-use Rattle.far_core.specs.events.Step.{after}
+use Rattle.far_events.specs.declared.event.Event.TheVariants as events
+use Rattle.far_events.specs.events.Collect.{collected, is_loose}
+use Rattle.far_events.specs.events.Legal.{Legal}
+use Rattle.far_events.specs.events.Step.{after}
 use Rattle.far_core.specs.laws.Observed.{live_bytes}
-use Rattle.far_core.specs.state.Jobs.{AimLaw, CopyLaw, GoodLaw, JobLaw, is_finished, job_at, job_said}
-use Rattle.far_core.specs.state.Law.{Law, head_len}
-use Rattle.far_core.specs.state.Spans.{spans_of}
-use Rattle.far_core.specs.state.State.{Copying, State, addr, put}
-use Rattle.far_core.proofs.KeepJobs.{law_with_copying, reworded_aims, reworded_good, reworded_jobs, unworded}
+use Rattle.far_events.specs.state.Jobs.{AimLaw, CopyLaw, GoodLaw, JobLaw, is_finished, job_at, job_said}
+use Rattle.far_events.specs.state.Law.{Law, head_len}
+use Rattle.far_events.specs.state.Spans.{spans_of}
+use Rattle.far_events.specs.state.State.{Copying, State, addr, put}
+use Rattle.far_core.proofs.KeepJobs.{law_with_copying, reworded_aims, reworded_good, reworded_jobs}
+use Rattle.far_events.proofs.JobPlaces.{unworded}
 use Rattle.far_core.proofs.Owing.{keeps}
-use Rattle.far_core.proofs.Put.{put_both, put_other, put_same}
+use Rattle.far_events.proofs.Put.{put_both, put_other, put_same}
 use Rattle.far_hand.specs.FindsJob.{FindsJob, job_body, job_found}
 use Rattle.far_hand.proofs.JobsFound.{same_job}
 use Rattle.far_book.specs.declared.jobs.Jobs.{Jobs}

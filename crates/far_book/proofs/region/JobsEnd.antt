@@ -15,28 +15,28 @@ use Rattle.far_word.specs.Pointer.{IsPtr, read_of}
 use Rattle.far_word.specs.Sizes.{size_of}
 use Rattle.far_word.proofs.JobLaws.{job_back, job_fits, job_says}
 use Rattle.far_word.proofs.PointerLaws.{read_back, read_says}
-use Rattle.far_core.specs.declared.event.Kind.TheVariants.{Open}
-use Rattle.far_core.specs.declared.naming.Naming.{Naming}
-use Rattle.far_core.specs.declared.naming.Naming.TheVariants.{Places, Retires, Evicts, Stays, Moves, Fetches}
-use Rattle.far_core.specs.events.Collect.{collected}
-use Rattle.far_core.specs.events.Copied.{copied_job, with_named}
-use Rattle.far_core.specs.events.Name.{after_naming}
-use Rattle.far_core.specs.events.Naming.{is_dropped, naming_of, unmarked}
-use Rattle.far_core.specs.events.namings.Moves.{after_move}
-use Rattle.far_core.specs.events.Offer as core
-use Rattle.far_core.specs.events.Offer.{after_offer}
-use Rattle.far_core.specs.events.Quiet.{IsClearNear}
+use Rattle.far_events.specs.declared.event.Kind.TheVariants.{Open}
+use Rattle.far_events.specs.declared.naming.Naming.{Naming}
+use Rattle.far_events.specs.declared.naming.Naming.TheVariants.{Places, Retires, Evicts, Stays, Moves, Fetches}
+use Rattle.far_events.specs.events.Collect.{collected}
+use Rattle.far_events.specs.events.Copied.{copied_job, with_named}
+use Rattle.far_events.specs.events.Name.{after_naming}
+use Rattle.far_events.specs.events.Naming.{is_dropped, naming_of, unmarked}
+use Rattle.far_events.specs.events.namings.Moves.{after_move}
+use Rattle.far_events.specs.events.Offer as core
+use Rattle.far_events.specs.events.Offer.{after_offer}
+use Rattle.far_events.specs.events.Quiet.{IsClearNear}
 use Rattle.far_core.specs.laws.Rooms.{IsRoom, RoomIs}
 use Rattle.far_core.specs.laws.Taking.{IsVoid}
-use Rattle.far_core.specs.state.Jobs.{is_finished, job_at, job_said, near_place}
-use Rattle.far_core.specs.state.Law.{Law}
+use Rattle.far_events.specs.state.Jobs.{is_finished, job_at, job_said, near_place}
+use Rattle.far_events.specs.state.Law.{Law}
 use Rattle.far_core.specs.state.Room.{room}
-use Rattle.far_core.specs.state.Spans.{names_place}
-use Rattle.far_core.specs.state.State.{State, put}
-use Rattle.far_core.proofs.Cells.{unused}
-use Rattle.far_core.proofs.Guards.{parts}
-use Rattle.far_core.proofs.KeepJobs.{job_low, unworded}
-use Rattle.far_core.proofs.Put.{put_other, put_same}
+use Rattle.far_events.specs.state.Spans.{names_place}
+use Rattle.far_events.specs.state.State.{State, put}
+use Rattle.far_events.proofs.Cells.{unused}
+use Rattle.far_events.proofs.Guards.{parts}
+use Rattle.far_events.proofs.JobPlaces.{job_low, unworded}
+use Rattle.far_events.proofs.Put.{put_other, put_same}
 use Rattle.far_core.proofs.RoomLaws.{room_right}
 use Rattle.far_hand.specs.FindsJob.{job_found}
 use Rattle.far_hand.proofs.Finding.{finds_same, near_found}

@@ -7,8 +7,8 @@ use Rattle.far_word.specs.Bytes.{bytes_of}
 use Rattle.far_word.specs.Sizes.{words_for}
 use Rattle.far_word.proofs.ByteLaws.{bytes_of-get, length-bytes_of}
 use Rattle.far_log.specs.Spans.{head_len}
-use Rattle.far_core.specs.state.State.{State, put, addr}
-use Rattle.far_core.proofs.Put.{put_both, put_other}
+use Rattle.far_events.specs.state.State.{State, put, addr}
+use Rattle.far_events.proofs.Put.{put_both, put_other}
 use Rattle.far_hand.specs.Known.{IsKnown, IsPaddedAt}
 use Rattle.far_book.specs.book.Dealing.{Leaves}
 use Rattle.far_hand.specs.Quiet.{IsQuietAt}

@@ -6,11 +6,11 @@ use Rattle.far_word.specs.declared.sizes.TheConstants.{LOG_WORDS}
 use Rattle.far_word.specs.Bytes.{bytes_of}
 use Rattle.far_word.specs.Sizes.{words_for}
 use Rattle.far_word.proofs.ByteLaws.{bytes_of-same}
-use Rattle.far_core.specs.declared.event.Event.{Event}
-use Rattle.far_core.specs.declared.event.Reply.{Reply}
-use Rattle.far_core.specs.events.Copies.{data_at}
-use Rattle.far_core.specs.state.State.{State, addr, put}
-use Rattle.far_core.proofs.Put.{put_other, put_same}
+use Rattle.far_events.specs.declared.event.Event.{Event}
+use Rattle.far_events.specs.declared.event.Reply.{Reply}
+use Rattle.far_events.specs.events.Copies.{data_at}
+use Rattle.far_events.specs.state.State.{State, addr, put}
+use Rattle.far_events.proofs.Put.{put_other, put_same}
 use Rattle.far_hand.specs.Came.{Came, only}
 use Rattle.far_hand.specs.Ranges.{ReadsRow, ReadsWord}
 use Rattle.far_hand.proofs.Closure.{first_call}

@@ -6,11 +6,11 @@ use Rattle.far_word.specs.declared.pointer.Place.{Place}
 use Rattle.far_word.specs.declared.pointer.PtrWord.{PtrWord}
 use Rattle.far_word.specs.Pointer.{read_of}
 use Rattle.far_word.specs.Sizes.{size_of}
-use Rattle.far_core.specs.events.NewObjects.{made_with}
-use Rattle.far_core.specs.events.Written.{written_words}
-use Rattle.far_core.specs.state.State.{State}
+use Rattle.far_events.specs.events.NewObjects.{made_with}
+use Rattle.far_events.specs.events.Written.{written_words}
+use Rattle.far_events.specs.state.State.{State}
 use Rattle.far_core.proofs.NewObjects.{MayMake, adopts_and_writes, cold, cold_is, law_cold, law_named, law_over, made_cold, named, named_is, over, over_then, rests_over}
-use Rattle.far_core.proofs.Splices.{written_fit}
+use Rattle.far_events.proofs.Splices.{written_fit}
 use Rattle.far_hand.specs.Known.{Forgets}
 use Rattle.far_book.specs.declared.ledger.Ledger.{Ledger}
 use Rattle.far_book.specs.book.Effects.{placed}

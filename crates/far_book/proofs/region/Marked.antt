@@ -5,12 +5,12 @@ use Rattle.far_word.specs.declared.pointer.PtrWord.TheVariants.{Near}
 use Rattle.far_word.specs.Mark.{marks_with}
 use Rattle.far_word.specs.Pointer.{read_of}
 use Rattle.far_word.proofs.PointerLaws.{with_mark_read}
-use Rattle.far_core.specs.declared.event.Event.TheVariants.{Mark}
-use Rattle.far_core.specs.events.Legal.{Legal}
-use Rattle.far_core.specs.state.Spans.{names_place}
-use Rattle.far_core.specs.state.State.{State, put}
+use Rattle.far_events.specs.declared.event.Event.TheVariants.{Mark}
+use Rattle.far_events.specs.events.Legal.{Legal}
+use Rattle.far_events.specs.state.Spans.{names_place}
+use Rattle.far_events.specs.state.State.{State, put}
 use Rattle.far_core.proofs.Owing.{keeps}
-use Rattle.far_core.proofs.Put.{put_same}
+use Rattle.far_events.proofs.Put.{put_same}
 use Rattle.far_book.specs.declared.ledger.Ledger.{Ledger}
 use Rattle.far_hand.specs.Finds.{Finds}
 use Rattle.far_book.specs.book.FarSide.{InOrder, kept_len}

@@ -10,31 +10,30 @@ use Rattle.far_word.specs.declared.sizes.TheConstants.{CELLS, LOG_WORDS}
 use Rattle.far_word.specs.Pointer.{IsPtr, read_of}
 use Rattle.far_word.specs.Sizes.{size_of}
 use Rattle.far_word.proofs.PointerLaws.{read_back, read_says}
-use Rattle.far_core.specs.declared.event.Event.TheVariants as events
-use Rattle.far_core.specs.declared.naming.Naming.TheVariants.{Evicts, Moves, Stays}
-use Rattle.far_core.specs.events.Copies.{data_at}
-use Rattle.far_core.specs.events.Legal.{IsNext}
-use Rattle.far_core.specs.events.Name.{after_naming}
-use Rattle.far_core.specs.events.Naming.{IsNaming, is_dropped, is_stay, no_marks, unmarked}
-use Rattle.far_core.specs.events.NewSpans.{with_span}
-use Rattle.far_core.specs.events.namings.Moves.{after_move}
-use Rattle.far_core.specs.events.Quiet.{is_quiet_cell}
-use Rattle.far_core.specs.events.Step.{after}
+use Rattle.far_events.specs.declared.event.Event.TheVariants as events
+use Rattle.far_events.specs.declared.naming.Naming.TheVariants.{Evicts, Moves, Stays}
+use Rattle.far_events.specs.events.Copies.{data_at}
+use Rattle.far_events.specs.events.Legal.{IsNext}
+use Rattle.far_events.specs.events.Name.{after_naming}
+use Rattle.far_events.specs.events.Naming.{IsNaming, is_dropped, is_stay, no_marks, unmarked}
+use Rattle.far_events.specs.events.NewSpans.{with_span}
+use Rattle.far_events.specs.events.namings.Moves.{after_move}
+use Rattle.far_events.specs.events.Quiet.{is_quiet_cell}
+use Rattle.far_events.specs.events.Step.{after}
 use Rattle.far_core.specs.laws.Rooms.{IsRoom, RoomIs}
-use Rattle.far_core.specs.state.Law.{Law, is_dirty}
+use Rattle.far_events.specs.state.Law.{Law, is_dirty}
 use Rattle.far_core.specs.state.Room.{room}
-use Rattle.far_core.specs.state.State.{State, put, addr}
-use Rattle.far_core.proofs.Copied.{NoCopy, no_copy_there, none_copied}
-use Rattle.far_core.proofs.MadeNamings.{unbegun}
-use Rattle.far_core.proofs.Namings.{naming_only}
-use Rattle.far_core.proofs.Put.{put_same, put_both}
-use Rattle.far_core.proofs.Quieting.{quiet_fact}
+use Rattle.far_events.specs.state.State.{State, put, addr}
+use Rattle.far_events.proofs.Copied.{NoCopy, no_copy_there, none_copied}
+use Rattle.far_events.proofs.MadeNamings.{unbegun}
+use Rattle.far_events.proofs.Namings.{naming_only}
+use Rattle.far_events.proofs.Put.{put_same, put_both}
+use Rattle.far_events.proofs.Quieting.{quiet_fact}
 use Rattle.far_core.proofs.RoomLaws.{room_right}
 use Rattle.far_hand.specs.Finds.{Finds, marks_in}
 use Rattle.far_hand.specs.Known.{IsKnown}
-use Rattle.far_hand.specs.Quiet.{is_quiet}
+use Rattle.far_hand.specs.Quiet.{is_quiet, IsQuietNear}
 use Rattle.far_book.specs.book.Dealing.{FindsDrop, Leaves, MovedBy, goal, goal_of, has_evac}
-use Rattle.far_hand.specs.Quiet.{IsQuietNear}
 use Rattle.far_book.specs.book.Effects.{moved, moved_of, near_word, stayed, stayed_of, with_written_span}
 use Rattle.far_book.specs.book.Moving.{MayCopy, MayStay, Copied}
 use Rattle.far_book.specs.book.Own.{own_part}

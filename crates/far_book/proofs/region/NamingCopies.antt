@@ -15,24 +15,25 @@ use Rattle.far_word.specs.Job.{job_of}
 use Rattle.far_word.specs.Pointer.{IsPtr, read_of}
 use Rattle.far_word.specs.Sizes.{size_of}
 use Rattle.far_word.proofs.PointerLaws.{read_back, read_says, word_fits}
-use Rattle.far_core.specs.declared.event.Event.TheVariants as events
-use Rattle.far_core.specs.declared.naming.Naming.TheVariants.{Moves}
-use Rattle.far_core.specs.events.Copied.{IsCopied, copied_job, with_named}
-use Rattle.far_core.specs.events.Name.{after_naming}
-use Rattle.far_core.specs.events.Naming.{is_dropped, no_marks, unmarked}
-use Rattle.far_core.specs.events.namings.Moves.{after_move}
-use Rattle.far_core.specs.events.Step.{after}
+use Rattle.far_events.specs.declared.event.Event.TheVariants as events
+use Rattle.far_events.specs.declared.naming.Naming.TheVariants.{Moves}
+use Rattle.far_events.specs.events.Copied.{IsCopied, copied_job, with_named}
+use Rattle.far_events.specs.events.Name.{after_naming}
+use Rattle.far_events.specs.events.Naming.{is_dropped, no_marks, unmarked}
+use Rattle.far_events.specs.events.namings.Moves.{after_move}
+use Rattle.far_events.specs.events.Step.{after}
 use Rattle.far_core.specs.laws.Observed.{live_bytes}
-use Rattle.far_core.specs.state.Jobs.{job_at, job_said, near_place}
-use Rattle.far_core.specs.state.Law.{Law, head_len, is_dirty}
-use Rattle.far_core.specs.state.Spans.{names_place, spans_of}
-use Rattle.far_core.specs.state.State.{State, addr}
-use Rattle.far_core.proofs.Bounds.{span_len}
-use Rattle.far_core.proofs.Copied.{copied_fact, copied_outside, copied_stands, copied_test, keeps_named}
-use Rattle.far_core.proofs.Guards.{parts}
-use Rattle.far_core.proofs.JobPlaces.{job_bounds}
-use Rattle.far_core.proofs.Namings.{naming_only}
-use Rattle.far_core.proofs.Put.{put_both, put_same}
+use Rattle.far_events.specs.state.Jobs.{job_at, job_said, near_place}
+use Rattle.far_events.specs.state.Law.{Law, head_len, is_dirty}
+use Rattle.far_events.specs.state.Spans.{names_place, spans_of}
+use Rattle.far_events.specs.state.State.{State, addr}
+use Rattle.far_events.proofs.Bounds.{span_len}
+use Rattle.far_events.proofs.Copied.{copied_fact, copied_outside, copied_stands, copied_test}
+use Rattle.far_core.proofs.Copied.{keeps_named}
+use Rattle.far_events.proofs.Guards.{parts}
+use Rattle.far_events.proofs.JobPlaces.{job_bounds}
+use Rattle.far_events.proofs.Namings.{naming_only}
+use Rattle.far_events.proofs.Put.{put_both, put_same}
 use Rattle.far_hand.specs.Finds.{Finds}
 use Rattle.far_hand.specs.Known.{Forgets}
 use Rattle.far_hand.proofs.Finding.{IsNearTo, finds_more, near_found}

@@ -16,12 +16,12 @@ use Rattle.far_log.specs.Spans.{Stands, Tile, head_len, header_of, span_at, poin
 use Rattle.far_log.proofs.Members.{here, there, split, none_in}
 use Rattle.far_log.proofs.SpanLaws.{tile_bounds, reads_as}
 use Rattle.far_core.specs.laws.Observed.{live_bytes, span_for}
-use Rattle.far_core.specs.state.Law.{Law}
-use Rattle.far_core.specs.state.Spans.{IsOfHeap, names_place, spans_of, is_live, word_in}
-use Rattle.far_core.specs.state.State.{State, put}
-use Rattle.far_core.proofs.Cells.{live_names as names_live}
+use Rattle.far_events.specs.state.Law.{Law}
+use Rattle.far_events.specs.state.Spans.{IsOfHeap, names_place, spans_of, is_live, word_in}
+use Rattle.far_events.specs.state.State.{State, put}
+use Rattle.far_events.proofs.Cells.{live_names as names_live}
 use Rattle.far_core.proofs.Observations.{found, listed, walks, of_heap, one_live, live_names}
-use Rattle.far_core.proofs.Put.{put_both}
+use Rattle.far_events.proofs.Put.{put_both}
 use Rattle.far_hand.specs.Finds.{Finds}
 use Rattle.far_book.specs.book.NextLive.{IsBoundary, IsHomeOf, IsNamedBetween, live_from, LivesBehind, LivesFromStart, SpansAreBounded}
 use Rattle.far_book.specs.book.Own.{own_part}

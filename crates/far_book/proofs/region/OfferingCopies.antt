@@ -15,21 +15,21 @@ use Rattle.far_word.specs.Sizes.{size_of, words_for}
 use Rattle.far_word.proofs.HeaderLaws.{head_fits}
 use Rattle.far_word.proofs.JobLaws.{job_back}
 use Rattle.far_word.proofs.PointerLaws.{read_back}
-use Rattle.far_core.specs.declared.event.Event.TheVariants as events
-use Rattle.far_core.specs.events.Copies.{data_at}
-use Rattle.far_core.specs.events.Legal.{Legal}
-use Rattle.far_core.specs.events.Naming.{unmarked}
-use Rattle.far_core.specs.events.Offer as core
-use Rattle.far_core.specs.events.Offer.{MayOffer, after_offer, with_job}
-use Rattle.far_core.specs.events.Step.{after}
+use Rattle.far_events.specs.declared.event.Event.TheVariants as events
+use Rattle.far_events.specs.events.Copies.{data_at}
+use Rattle.far_events.specs.events.Legal.{Legal}
+use Rattle.far_events.specs.events.Naming.{unmarked}
+use Rattle.far_events.specs.events.Offer as core
+use Rattle.far_events.specs.events.Offer.{MayOffer, after_offer, with_job}
+use Rattle.far_events.specs.events.Step.{after}
 use Rattle.far_core.specs.laws.Observed.{live_bytes}
-use Rattle.far_core.specs.state.Jobs.{job_at, job_said}
-use Rattle.far_core.specs.state.Law.{Law}
-use Rattle.far_core.specs.state.Spans.{spans_of}
-use Rattle.far_core.specs.state.State.{State, addr, put}
+use Rattle.far_events.specs.state.Jobs.{job_at, job_said}
+use Rattle.far_events.specs.state.Law.{Law}
+use Rattle.far_events.specs.state.Spans.{spans_of}
+use Rattle.far_events.specs.state.State.{State, addr, put}
 use Rattle.far_core.proofs.Owing.{keeps}
-use Rattle.far_core.proofs.Put.{put_other, put_same}
-use Rattle.far_core.proofs.events.Offer.{offer_layout}
+use Rattle.far_events.proofs.Put.{put_other, put_same}
+use Rattle.far_events.proofs.events.Offer.{offer_layout}
 use Rattle.far_hand.specs.Known.{Forgets}
 use Rattle.far_book.specs.declared.jobs.Jobs.{Jobs}
 use Rattle.far_book.specs.declared.ledger.Filled.{Filled}

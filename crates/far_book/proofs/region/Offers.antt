@@ -7,14 +7,14 @@ use Rattle.far_word.specs.declared.sizes.TheConstants.{CELLS, JOBS}
 use Rattle.far_word.specs.Pointer.{IsPtr, read_of}
 use Rattle.far_word.specs.Sizes.{size_of}
 use Rattle.far_word.proofs.PointerLaws.{read_says}
-use Rattle.far_core.specs.declared.event.Event.TheVariants as events
-use Rattle.far_core.specs.events.Quiet.{IsClearNear}
-use Rattle.far_core.specs.events.Step.{after}
+use Rattle.far_events.specs.declared.event.Event.TheVariants as events
+use Rattle.far_events.specs.events.Quiet.{IsClearNear}
+use Rattle.far_events.specs.events.Step.{after}
 use Rattle.far_core.specs.laws.Rooms.{IsRoom, RoomIs}
 use Rattle.far_core.specs.state.Room.{room}
-use Rattle.far_core.specs.state.State.{State}
-use Rattle.far_core.proofs.NewSpans.{at_tail}
-use Rattle.far_core.proofs.Put.{put_old, put_same}
+use Rattle.far_events.specs.state.State.{State}
+use Rattle.far_events.proofs.NewSpans.{at_tail}
+use Rattle.far_events.proofs.Put.{put_old, put_same}
 use Rattle.far_core.proofs.RoomLaws.{room_right}
 use Rattle.far_hand.specs.Finds.{Finds}
 use Rattle.far_hand.specs.Known.{Forgets}

@@ -3,15 +3,15 @@ use Rattle.std.proofs.Common.{◌≡◌, ℕ, ◌+◌, ◌^◌, ◌<◌, true, c
 use Rattle.std.specs.Prelude.{◌==◌, Bool, Option, slice_index}
 use Rattle.std.proofs.lemmas.Bool.{cond_both, cases_eq, eq-eqb, ne_eqb}
 use Rattle.far_log.specs.Spans.{taken_by}
-use Rattle.far_core.specs.declared.event.Event.{Event}
-use Rattle.far_core.specs.declared.event.Event.TheVariants.{Store}
-use Rattle.far_core.specs.events.Ranges.{after_events}
-use Rattle.far_core.specs.events.Step.{step_of}
+use Rattle.far_events.specs.declared.event.Event.{Event}
+use Rattle.far_events.specs.declared.event.Event.TheVariants.{Store}
+use Rattle.far_events.specs.events.Ranges.{after_events}
+use Rattle.far_events.specs.events.Step.{step_of}
 use Rattle.far_core.specs.laws.Observed.{live_bytes}
-use Rattle.far_core.specs.state.Jobs.{job_at}
-use Rattle.far_core.specs.state.Law.{Law}
-use Rattle.far_core.specs.state.Spans.{spans_of, is_live}
-use Rattle.far_core.specs.state.State.{State}
+use Rattle.far_events.specs.state.Jobs.{job_at}
+use Rattle.far_events.specs.state.Law.{Law}
+use Rattle.far_events.specs.state.Spans.{spans_of, is_live}
+use Rattle.far_events.specs.state.State.{State}
 use Rattle.far_core.proofs.Keeps.{step_keeps}
 use Rattle.far_book.specs.declared.ledger.Ledger.{Ledger}
 use Rattle.far_hand.specs.Makers.{ByBook, ByCopier, ByOwner, Maker, is_other, is_others, is_owner, is_owners, maker}

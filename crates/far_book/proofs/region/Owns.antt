@@ -14,18 +14,18 @@ use Rattle.far_log.specs.Spans.{Tile, span_at, spans_from, spans_in, taken_by, p
 use Rattle.far_log.proofs.Members.{here, there}
 use Rattle.far_log.proofs.SpanLaws.{tile_low}
 use Rattle.far_word.specs.Pointer.{read_of}
-use Rattle.far_core.specs.events.Naming.{is_dropped}
-use Rattle.far_core.specs.events.NewSpans.{with_span}
-use Rattle.far_core.specs.events.Ranges.{with_row}
+use Rattle.far_events.specs.events.Naming.{is_dropped}
+use Rattle.far_events.specs.events.NewSpans.{with_span}
+use Rattle.far_events.specs.events.Ranges.{with_row}
 use Rattle.far_core.specs.laws.Observed.{live_bytes, dead_bytes}
-use Rattle.far_core.specs.state.Jobs.{CopyLaw}
-use Rattle.far_core.specs.state.Law.{Law, head_len}
-use Rattle.far_core.specs.state.Spans.{spans_of, word_in, is_live}
-use Rattle.far_core.specs.state.State.{State, put, addr}
+use Rattle.far_events.specs.state.Jobs.{CopyLaw}
+use Rattle.far_events.specs.state.Law.{Law, head_len}
+use Rattle.far_events.specs.state.Spans.{spans_of, word_in, is_live}
+use Rattle.far_events.specs.state.State.{State, put, addr}
 use Rattle.far_core.proofs.KeepJobs.{keeps_jobs, stand_still}
 use Rattle.far_core.proofs.KeepOwner.{closed_word}
 use Rattle.far_core.proofs.Observations.{found, walks}
-use Rattle.far_core.proofs.Put.{put_same, put_other}
+use Rattle.far_events.proofs.Put.{put_same, put_other}
 use Rattle.far_hand.specs.Known.{Forgets}
 use Rattle.far_book.specs.book.Effects.{near_word, placed, retired, with_blank_span, with_free_cell, with_written_span}
 use Rattle.far_book.specs.book.Own.{own_part, unread}

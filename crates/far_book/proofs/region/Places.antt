@@ -17,21 +17,21 @@ use Rattle.far_log.specs.Spans.{Stands, Tile, taken_by}
 use Rattle.far_log.specs.Walk.{IsWalk}
 use Rattle.far_log.proofs.SpanLaws.{one_list, tile_bounds}
 use Rattle.far_log.proofs.WalkLaws.{walk_more, same_walk}
-use Rattle.far_core.specs.declared.event.Event.TheVariants as events
-use Rattle.far_core.specs.declared.event.Kind.TheVariants as kinds
-use Rattle.far_core.specs.events.Legal.{IsNext}
-use Rattle.far_core.specs.events.Naming.{no_marks, unmarked}
-use Rattle.far_core.specs.events.NewSpans.{IsNewSpan, with_span}
-use Rattle.far_core.specs.events.Step.{after}
+use Rattle.far_events.specs.declared.event.Event.TheVariants as events
+use Rattle.far_events.specs.declared.event.Kind.TheVariants as kinds
+use Rattle.far_events.specs.events.Legal.{IsNext}
+use Rattle.far_events.specs.events.Naming.{no_marks, unmarked}
+use Rattle.far_events.specs.events.NewSpans.{IsNewSpan, with_span}
+use Rattle.far_events.specs.events.Step.{after}
 use Rattle.far_core.specs.laws.Observed.{live_bytes, span_for}
-use Rattle.far_core.specs.state.Law.{IsStored, Law, head_len}
-use Rattle.far_core.specs.state.Spans.{spans_of, word_in, is_live, names_place}
-use Rattle.far_core.specs.state.State.{State, put, addr}
-use Rattle.far_core.proofs.Cells.{unused}
-use Rattle.far_core.proofs.NewSpans.{at_tail}
+use Rattle.far_events.specs.state.Law.{IsStored, Law, head_len}
+use Rattle.far_events.specs.state.Spans.{spans_of, word_in, is_live, names_place}
+use Rattle.far_events.specs.state.State.{State, put, addr}
+use Rattle.far_events.proofs.Cells.{unused}
+use Rattle.far_events.proofs.NewSpans.{at_tail}
 use Rattle.far_core.proofs.Observations.{walks}
 use Rattle.far_core.proofs.Owing.{keeps}
-use Rattle.far_core.proofs.Put.{put_both, put_same, put_other}
+use Rattle.far_events.proofs.Put.{put_both, put_same, put_other}
 use Rattle.far_core.proofs.TakingSpans.{clean_at, keeps_new_span}
 use Rattle.far_book.specs.book.Effects.{near_word}
 use Rattle.far_book.specs.book.Placeable.{Placeable, with_object}

@@ -13,27 +13,27 @@ use Rattle.far_word.specs.Pointer.{IsPtr, read_of}
 use Rattle.far_word.specs.Sizes.{size_of, words_for}
 use Rattle.far_word.proofs.HeaderLaws.{head_fits}
 use Rattle.far_word.proofs.PointerLaws.{word_fits, read_back}
-use Rattle.far_core.specs.declared.event.Event.{Event}
-use Rattle.far_core.specs.declared.event.Event.TheVariants as events
-use Rattle.far_core.specs.declared.event.Kind.TheVariants.{Sealed}
-use Rattle.far_core.specs.declared.event.Reply.{Reply}
-use Rattle.far_core.specs.declared.event.Reply.TheVariants.{Done, Refused, Word}
-use Rattle.far_core.specs.declared.naming.Naming.{Naming}
-use Rattle.far_core.specs.declared.naming.Naming.TheVariants as naming
-use Rattle.far_core.specs.events.Legal.{IsNext, Legal}
-use Rattle.far_core.specs.events.Name.{change_by}
-use Rattle.far_core.specs.events.Naming.{no_marks, naming_of, unmarked}
-use Rattle.far_core.specs.events.Ranges.{AllLegal, after_events, with_row}
-use Rattle.far_core.specs.events.Step.{Fits, after, answer, step_of}
+use Rattle.far_events.specs.declared.event.Event.{Event}
+use Rattle.far_events.specs.declared.event.Event.TheVariants as events
+use Rattle.far_events.specs.declared.event.Kind.TheVariants.{Sealed}
+use Rattle.far_events.specs.declared.event.Reply.{Reply}
+use Rattle.far_events.specs.declared.event.Reply.TheVariants.{Done, Refused, Word}
+use Rattle.far_events.specs.declared.naming.Naming.{Naming}
+use Rattle.far_events.specs.declared.naming.Naming.TheVariants as naming
+use Rattle.far_events.specs.events.Legal.{IsNext, Legal}
+use Rattle.far_events.specs.events.Name.{change_by}
+use Rattle.far_events.specs.events.Naming.{no_marks, naming_of, unmarked}
+use Rattle.far_events.specs.events.Ranges.{AllLegal, after_events, with_row}
+use Rattle.far_events.specs.events.Step.{Fits, after, answer, step_of}
 use Rattle.far_core.specs.laws.Rooms.{IsRoom, RoomIs}
-use Rattle.far_core.specs.state.Law.{Law}
-use Rattle.far_core.specs.state.State.{State, addr, put}
+use Rattle.far_events.specs.state.Law.{Law}
+use Rattle.far_events.specs.state.State.{State, addr, put}
 use Rattle.far_core.specs.world.Changes.{StepOf}
 use Rattle.far_core.specs.world.Happens.{Happens}
 use Rattle.far_core.specs.world.WorldOf.{world_of}
-use Rattle.far_core.proofs.Cells.{unused}
+use Rattle.far_events.proofs.Cells.{unused}
 use Rattle.far_core.proofs.Keeps.{step_keeps}
-use Rattle.far_core.proofs.NewSpans.{at_tail}
+use Rattle.far_events.proofs.NewSpans.{at_tail}
 use Rattle.far_core.proofs.Owing.{keeps, does, is_test}
 use Rattle.far_core.proofs.Ranges.{row_made}
 use Rattle.far_core.proofs.RoomLaws.{room_right}

@@ -9,23 +9,25 @@ use Rattle.far_word.specs.Header.{IsHead}
 use Rattle.far_word.specs.Pointer.{IsPtr, read_of}
 use Rattle.far_word.specs.Sizes.{size_of, words_for}
 use Rattle.far_word.proofs.PointerLaws.{read_back, read_says, word_fits}
-use Rattle.far_core.specs.declared.event.Event.{Event}
-use Rattle.far_core.specs.declared.event.Event.TheVariants as events
-use Rattle.far_core.specs.declared.naming.Naming.TheVariants as naming
-use Rattle.far_core.specs.events.Copies.{Alike}
-use Rattle.far_core.specs.events.Legal.{Legal}
-use Rattle.far_core.specs.events.Naming.{no_marks, naming_of}
+use Rattle.far_events.specs.declared.event.Event.{Event}
+use Rattle.far_events.specs.declared.event.Event.TheVariants as events
+use Rattle.far_events.specs.declared.naming.Naming.TheVariants as naming
+use Rattle.far_events.specs.events.Copies.{Alike}
+use Rattle.far_events.specs.events.Legal.{Legal}
+use Rattle.far_events.specs.events.Naming.{no_marks, naming_of}
 use Rattle.far_book.specs.book.Renaming.{stops}
 use Rattle.std.specs.Prelude.{◌||◌}
 use Rattle.far_core.specs.laws.Rooms.{IsRoom, RoomIs}
-use Rattle.far_core.specs.state.Law.{Law, IsStored}
+use Rattle.far_events.specs.state.Law.{Law, IsStored}
 use Rattle.far_core.specs.state.Room.{room}
-use Rattle.far_core.specs.state.State.{State}
-use Rattle.far_core.specs.world.Changes.{Step, ComesNear}
+use Rattle.far_events.specs.state.State.{State}
+use Rattle.far_core.specs.world.Changes.{Step}
+use Rattle.far_events.specs.events.Changes.{ComesNear}
 use Rattle.far_core.specs.world.WorldOf.{world_of}
-use Rattle.far_core.proofs.Cells.{unused}
-use Rattle.far_core.proofs.NewSpans.{at_tail, takes_span}
-use Rattle.far_core.proofs.Put.{put_old, put_other, put_same}
+use Rattle.far_events.proofs.Cells.{unused}
+use Rattle.far_events.proofs.NewSpans.{at_tail}
+use Rattle.far_core.proofs.NewSpans.{takes_span}
+use Rattle.far_events.proofs.Put.{put_old, put_other, put_same}
 use Rattle.far_core.proofs.RoomLaws.{room_right}
 use Rattle.far_book.specs.book.Effects.{fetched, near_word, with_written_span}
 use Rattle.far_book.specs.book.Laws.{FetchingIsLegal, IsCome}

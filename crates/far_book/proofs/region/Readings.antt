@@ -10,9 +10,9 @@ use Rattle.far_log.specs.Spans.{Stands, head_len}
 use Rattle.far_log.specs.Walk.{IsWalk}
 use Rattle.far_log.proofs.Members.{All-from}
 use Rattle.far_log.proofs.SpanLaws.{tile_bounds}
-use Rattle.far_core.specs.state.Law.{Law}
-use Rattle.far_core.specs.state.Spans.{spans_of, word_in}
-use Rattle.far_core.specs.state.State.{State}
+use Rattle.far_events.specs.state.Law.{Law}
+use Rattle.far_events.specs.state.Spans.{spans_of, word_in}
+use Rattle.far_events.specs.state.State.{State}
 use Rattle.far_core.proofs.Observations.{found, walks}
 use Rattle.far_hand.specs.Known.{IsKnown, IsPaddedAt}
 use Rattle.far_book.specs.book.Own.{own_part}

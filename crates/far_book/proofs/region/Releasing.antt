@@ -12,18 +12,18 @@ use Rattle.far_word.specs.Sizes.{bytes_taken}
 use Rattle.far_log.specs.declared.span.Span.{Span}
 use Rattle.far_log.specs.Spans.{spans_in, taken_by}
 use Rattle.far_log.proofs.Members.{here, there}
-use Rattle.far_core.specs.declared.event.Event.TheVariants.{Get}
-use Rattle.far_core.specs.declared.event.Kind.TheVariants.{Free, Sealed}
-use Rattle.far_core.specs.events.Get.{IsUncopied, IsVacant, with_free_log}
-use Rattle.far_core.specs.events.Mark.{is_sealed}
+use Rattle.far_events.specs.declared.event.Event.TheVariants.{Get}
+use Rattle.far_events.specs.declared.event.Kind.TheVariants.{Free, Sealed}
+use Rattle.far_events.specs.events.Get.{IsUncopied, IsVacant, with_free_log}
+use Rattle.far_events.specs.events.Mark.{is_sealed}
 use Rattle.far_core.specs.laws.Observed.{live_bytes}
-use Rattle.far_core.specs.state.Law.{Law}
+use Rattle.far_events.specs.state.Law.{Law}
 use Rattle.far_core.specs.state.Room.{is_free}
-use Rattle.far_core.specs.state.Spans.{is_live, spans_of, word_in}
-use Rattle.far_core.specs.state.State.{State}
-use Rattle.far_core.proofs.Cells.{live_names}
+use Rattle.far_events.specs.state.Spans.{is_live, spans_of, word_in}
+use Rattle.far_events.specs.state.State.{State}
+use Rattle.far_events.proofs.Cells.{live_names}
 use Rattle.far_core.proofs.Owing.{keeps}
-use Rattle.far_core.proofs.Put.{put_same, put_other}
+use Rattle.far_events.proofs.Put.{put_same, put_other}
 use Rattle.far_book.specs.declared.ledger.Filled.{Filled}
 use Rattle.far_book.specs.declared.ledger.Ledger.{Ledger}
 use Rattle.far_hand.specs.Known.{Forgets}

@@ -1,16 +1,16 @@
 -- The effect of giving a log back is reached by one legal event, and is one step of the world.
 use Rattle.std.proofs.Common.{◌≡◌, ◌≢◌, ℕ, true, false, arith, refl, ap}
 use Rattle.far_log.specs.Spans.{spans_in}
-use Rattle.far_core.specs.declared.event.Event.{Event}
-use Rattle.far_core.specs.declared.event.Event.TheVariants.{Get}
-use Rattle.far_core.specs.declared.event.Kind.TheVariants.{Free}
-use Rattle.far_core.specs.events.Legal.{Legal}
-use Rattle.far_core.specs.state.Law.{Law}
-use Rattle.far_core.specs.state.Spans.{spans_of, word_in}
-use Rattle.far_core.specs.state.State.{State}
+use Rattle.far_events.specs.declared.event.Event.{Event}
+use Rattle.far_events.specs.declared.event.Event.TheVariants.{Get}
+use Rattle.far_events.specs.declared.event.Kind.TheVariants.{Free}
+use Rattle.far_events.specs.events.Legal.{Legal}
+use Rattle.far_events.specs.state.Law.{Law}
+use Rattle.far_events.specs.state.Spans.{spans_of, word_in}
+use Rattle.far_events.specs.state.State.{State}
 use Rattle.far_core.proofs.Observations.{logs_stand}
 use Rattle.far_core.proofs.Owing.{does, keeps}
-use Rattle.far_core.proofs.Put.{put_other, put_same}
+use Rattle.far_events.proofs.Put.{put_other, put_same}
 use Rattle.far_book.specs.book.Laws.{IsReleased, ReleasingIsLegal}
 use Rattle.far_book.specs.book.Releasing.{released}
 use Rattle.far_book.proofs.region.Owns.{own_law}

@@ -6,19 +6,19 @@ use Rattle.far_word.specs.declared.pointer.PtrWord.TheVariants.{Near}
 use Rattle.far_word.specs.declared.sizes.TheConstants.{EPOCH_END}
 use Rattle.far_word.specs.Pointer.{read_of, without_evac}
 use Rattle.far_word.proofs.PointerLaws.{without_evac_read}
-use Rattle.far_core.specs.declared.event.Event.TheVariants.{Advance, Clear}
-use Rattle.far_core.specs.events.Advance.{advanced}
-use Rattle.far_core.specs.events.Clear.{evac_cleared, round_left}
-use Rattle.far_core.specs.events.Legal.{Legal}
+use Rattle.far_events.specs.declared.event.Event.TheVariants.{Advance, Clear}
+use Rattle.far_events.specs.events.Advance.{advanced}
+use Rattle.far_events.specs.events.Clear.{evac_cleared, round_left}
+use Rattle.far_events.specs.events.Legal.{Legal}
 use Rattle.far_core.specs.laws.Observed.{live_bytes}
-use Rattle.far_core.specs.state.Law.{Law}
-use Rattle.far_core.specs.state.Spans.{names_place, spans_of}
-use Rattle.far_core.specs.state.State.{State, put}
+use Rattle.far_events.specs.state.Law.{Law}
+use Rattle.far_events.specs.state.Spans.{names_place, spans_of}
+use Rattle.far_events.specs.state.State.{State, put}
 use Rattle.far_core.proofs.events.Clear.{out_still}
 use Rattle.far_core.proofs.Frames.{law_with_fewer_chosen}
 use Rattle.far_core.proofs.KeepJobs.{copies_fewer}
 use Rattle.far_core.proofs.Owing.{keeps}
-use Rattle.far_core.proofs.Put.{put_both, put_same}
+use Rattle.far_events.proofs.Put.{put_both, put_same}
 use Rattle.far_book.specs.declared.ledger.Ledger.{Ledger}
 use Rattle.far_hand.specs.Cleared.{cleared}
 use Rattle.far_hand.specs.Finds.{Finds}

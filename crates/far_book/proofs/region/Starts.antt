@@ -7,16 +7,17 @@ use Rattle.std.proofs.lemmas.Bool.{cases_eq, eq-eqb, ne_eqb}
 use Rattle.std.proofs.lemmas.List.{get_or-replicate}
 use Rattle.far_word.specs.declared.sizes.TheConstants.{JOBS}
 use Rattle.far_log.specs.Spans.{spans_in}
-use Rattle.far_core.specs.declared.event.Kind.TheVariants.{Free, Open}
-use Rattle.far_core.specs.declared.shape.Shape.{Shape}
-use Rattle.far_core.specs.events.Mark.{is_sealed}
+use Rattle.far_events.specs.declared.event.Kind.TheVariants.{Free, Open}
+use Rattle.far_events.specs.declared.shape.Shape.{Shape}
+use Rattle.far_events.specs.events.Mark.{is_sealed}
 use Rattle.far_core.specs.laws.Observed.{live_bytes}
-use Rattle.far_core.specs.state.Opening.{for_copiers, opening}
+use Rattle.far_events.specs.state.Opening.{for_copiers, opening}
 use Rattle.far_core.specs.state.Room.{is_free}
-use Rattle.far_core.specs.state.Shape.{is_shape}
-use Rattle.far_core.specs.state.Spans.{spans_of}
-use Rattle.far_core.proofs.Begins.{begins, row_of}
-use Rattle.far_core.proofs.Put.{put_both}
+use Rattle.far_events.specs.state.Shape.{is_shape}
+use Rattle.far_events.specs.state.Spans.{spans_of}
+use Rattle.far_core.proofs.Begins.{begins}
+use Rattle.far_events.proofs.Begins.{row_of}
+use Rattle.far_events.proofs.Put.{put_both}
 use Rattle.far_book.specs.declared.ledger.Filled.{Filled}
 use Rattle.far_book.specs.declared.ledger.Ledger.{Ledger}
 use Rattle.far_book.specs.declared.ledger.TheConstants.{SETS}

@@ -7,11 +7,11 @@ use Rattle.far_word.specs.declared.job.JobWord.TheVariants.{Empty, Offered, Take
 use Rattle.far_word.specs.declared.pointer.Place.{Place}
 use Rattle.far_word.specs.Job.{job_of, job_word}
 use Rattle.far_word.proofs.JobLaws.{job_back, job_fits, job_says}
-use Rattle.far_core.specs.events.Get.{IsUncopied}
-use Rattle.far_core.specs.state.Jobs.{AimLaw, GoodLaw, JobLaw, TakenLaw, is_finished, job_at, job_said}
-use Rattle.far_core.specs.state.State.{Copying}
-use Rattle.far_core.proofs.Copied.{NoCopy}
-use Rattle.far_core.proofs.KeepJobs.{unworded}
+use Rattle.far_events.specs.events.Get.{IsUncopied}
+use Rattle.far_events.specs.state.Jobs.{AimLaw, GoodLaw, JobLaw, TakenLaw, is_finished, job_at, job_said}
+use Rattle.far_events.specs.state.State.{Copying}
+use Rattle.far_events.proofs.Copied.{NoCopy}
+use Rattle.far_events.proofs.JobPlaces.{unworded}
 use Rattle.far_book.specs.book.Own.{unread, untaken, untaken_of}
 
 -- what it says

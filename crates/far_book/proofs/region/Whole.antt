@@ -7,10 +7,10 @@ use Rattle.far_log.specs.declared.span.Span.{Span}
 use Rattle.far_log.specs.Walk.{IsWalk}
 use Rattle.far_core.specs.laws.Observed.{live_bytes, dead_bytes, unused_bytes, OneLive, HasOnePlace, NamesOnce, LogsStand, NearHasOneLive, PlacedExactly}
 use Rattle.far_core.specs.laws.Rooms.{RoomIs, RoomIsRight}
-use Rattle.far_core.specs.state.Law.{Law}
+use Rattle.far_events.specs.state.Law.{Law}
 use Rattle.far_core.specs.state.Room.{room}
-use Rattle.far_core.specs.state.Spans.{IsOfHeap, spans_of, word_in}
-use Rattle.far_core.specs.state.State.{State}
+use Rattle.far_events.specs.state.Spans.{IsOfHeap, spans_of, word_in}
+use Rattle.far_events.specs.state.State.{State}
 use Rattle.far_core.proofs.Observations as core
 use Rattle.far_core.proofs.RoomLaws.{room_right}
 use Rattle.far_book.specs.book.Own.{own_part}

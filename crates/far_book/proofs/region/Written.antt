@@ -1,8 +1,8 @@
 -- Words of which some are those of a row.
 use Rattle.std.proofs.Common.{◌≡◌, ℕ, ◌+◌, ◌<◌, ◌≤◌, inl, inr}
 use Rattle.std.proofs.lemmas.Bool.{cases_lt}
-use Rattle.far_core.specs.events.Ranges.{with_row}
-use Rattle.far_core.proofs.Rows.{row_out}
+use Rattle.far_events.specs.events.Ranges.{with_row}
+use Rattle.far_events.proofs.Rows.{row_out}
 
 -- where the row doesn't reach
 pub row_other : (word : ℕ → ℕ) (a n : ℕ) (row : ℕ → ℕ) (k : ℕ) → (a ≤ k → k < a + n → ⊥) → with_row word a n row k ≡ word k

@@ -7,12 +7,12 @@ use Rattle.far_word.specs.declared.pointer.PtrWord.TheVariants.{Near, Far}
 use Rattle.far_word.specs.declared.sizes.TheConstants.{CELLS, LONGEST}
 use Rattle.far_word.specs.Pointer.{read_of}
 use Rattle.far_word.specs.Sizes.{size_of, words_for}
-use Rattle.far_core.specs.declared.event.Kind.TheVariants.{Sealed}
-use Rattle.far_core.specs.events.Copies.{Alike}
-use Rattle.far_core.specs.events.Quiet.{is_quiet}
-use Rattle.far_core.specs.state.Law.{Law, IsStored}
+use Rattle.far_events.specs.declared.event.Kind.TheVariants.{Sealed}
+use Rattle.far_events.specs.events.Copies.{Alike}
+use Rattle.far_events.specs.events.Quiet.{is_quiet}
+use Rattle.far_events.specs.state.Law.{Law, IsStored}
 use Rattle.far_core.specs.state.Room.{room}
-use Rattle.far_core.specs.state.State.{State}
+use Rattle.far_events.specs.state.State.{State}
 use Rattle.far_book.specs.book.Effects.{fetched, moved, order_after, placed}
 use Rattle.far_book.specs.book.Offering.{offered}
 use Rattle.far_book.specs.book.Releasing.{order_without}

@@ -9,9 +9,9 @@ use Rattle.far_word.specs.declared.refused.Refused.TheVariants.{Memory, NoRoom, 
 use Rattle.far_word.specs.Bytes.{bytes_of, packed_word}
 use Rattle.far_word.specs.Pointer.{read_of}
 use Rattle.far_word.specs.Sizes.{words_for}
-use Rattle.far_core.specs.events.Naming.{is_dropped}
-use Rattle.far_core.specs.state.Law.{IsStored, is_dirty}
-use Rattle.far_core.specs.state.State.{State, addr}
+use Rattle.far_events.specs.events.Naming.{is_dropped}
+use Rattle.far_events.specs.state.Law.{IsStored, is_dirty}
+use Rattle.far_events.specs.state.State.{State, addr}
 use Rattle.far_device.specs.declared.fault.DeviceFault.{DeviceFault}
 use Rattle.far_device.specs.declared.fault.DeviceFault.TheVariants as fault
 use Rattle.far_hand.specs.Known.{Forgets, IsKnown}

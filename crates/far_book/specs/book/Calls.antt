@@ -8,15 +8,15 @@ use Rattle.far_word.specs.declared.refused.Refused.TheVariants.{Device, Memory, 
 use Rattle.far_word.specs.Pointer.{read_of}
 use Rattle.far_word.specs.Sizes.{size_of}
 use Rattle.far_log.specs.declared.span.Span.{Span}
-use Rattle.far_core.specs.declared.event.Event.{Event}
-use Rattle.far_core.specs.declared.event.Event.TheVariants.{Name, See}
-use Rattle.far_core.specs.declared.event.Reply.{Reply}
-use Rattle.far_core.specs.declared.event.Reply.TheVariants.{Done, Word}
-use Rattle.far_core.specs.events.Naming.{is_dropped}
-use Rattle.far_core.specs.state.Law.{is_dirty}
+use Rattle.far_events.specs.declared.event.Event.{Event}
+use Rattle.far_events.specs.declared.event.Event.TheVariants.{Name, See}
+use Rattle.far_events.specs.declared.event.Reply.{Reply}
+use Rattle.far_events.specs.declared.event.Reply.TheVariants.{Done, Word}
+use Rattle.far_events.specs.events.Naming.{is_dropped}
+use Rattle.far_events.specs.state.Law.{is_dirty}
 use Rattle.far_core.specs.state.Room as rooms
-use Rattle.far_core.specs.state.Spans.{spans_of}
-use Rattle.far_core.specs.state.State.{State, put}
+use Rattle.far_events.specs.state.Spans.{spans_of}
+use Rattle.far_events.specs.state.State.{State, put}
 use Rattle.far_device.specs.declared.fault.DeviceFault.{DeviceFault}
 use Rattle.far_device.specs.Following.{Follows, other_than}
 use Rattle.far_hand.specs.Came.{Came, only}

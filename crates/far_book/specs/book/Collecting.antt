@@ -10,15 +10,15 @@ use Rattle.far_word.specs.declared.pointer.PtrWord.TheVariants.{Free, Near, Far}
 use Rattle.far_word.specs.declared.sizes.TheConstants.{JOBS}
 use Rattle.far_word.specs.Job.{job_of}
 use Rattle.far_word.specs.Pointer.{read_of}
-use Rattle.far_core.specs.declared.event.Event.TheVariants.{Name}
-use Rattle.far_core.specs.events.Collect.{collected}
-use Rattle.far_core.specs.events.Naming.{is_dropped, unmarked}
-use Rattle.far_core.specs.events.Step.{after}
+use Rattle.far_events.specs.declared.event.Event.TheVariants.{Name}
+use Rattle.far_events.specs.events.Collect.{collected}
+use Rattle.far_events.specs.events.Naming.{is_dropped, unmarked}
+use Rattle.far_events.specs.events.Step.{after}
 use Rattle.far_core.specs.laws.Taking.{IsVoid}
-use Rattle.far_core.specs.state.Jobs.{IsGood, is_finished, job_at, near_place}
-use Rattle.far_core.specs.state.Law.{Law}
-use Rattle.far_core.specs.state.Spans.{names_place}
-use Rattle.far_core.specs.state.State.{State}
+use Rattle.far_events.specs.state.Jobs.{IsGood, is_finished, job_at, near_place}
+use Rattle.far_events.specs.state.Law.{Law}
+use Rattle.far_events.specs.state.Spans.{names_place}
+use Rattle.far_events.specs.state.State.{State}
 use Rattle.far_hand.specs.Finds.{Finds}
 use Rattle.far_hand.specs.FindsJob.{FindsJob, job_found}
 use Rattle.far_hand.specs.Known.{Forgets}

@@ -1,9 +1,9 @@
 -- What the book's calls on jobs promise, each in one record, of the book before and after the call.
 use Rattle.std.specs.Prelude.{◌≡◌, ◌⊎◌, ◌↔◌, ◌≤◌, ℕ, Bool, true, false, None}
 use Rattle.far_word.specs.declared.sizes.TheConstants.{JOBS}
-use Rattle.far_core.specs.declared.event.Event.{Event}
-use Rattle.far_core.specs.declared.event.Reply.{Reply}
-use Rattle.far_core.specs.state.State.{State}
+use Rattle.far_events.specs.declared.event.Event.{Event}
+use Rattle.far_events.specs.declared.event.Reply.{Reply}
+use Rattle.far_events.specs.state.State.{State}
 use Rattle.far_hand.specs.Came.{Came}
 use Rattle.far_book.specs.book.BookOf.{BookOf}
 use Rattle.far_book.specs.book.Collecting.{Collects, TakesBack, all_back, all_collected}

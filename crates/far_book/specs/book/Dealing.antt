@@ -8,9 +8,9 @@ use Rattle.far_word.specs.declared.refused.Refused.TheVariants.{Device}
 use Rattle.far_word.specs.declared.sizes.TheConstants.{LOG_WORDS}
 use Rattle.far_word.specs.Pointer.{read_of}
 use Rattle.far_word.specs.Sizes.{size_of}
-use Rattle.far_core.specs.events.Naming.{is_dropped}
+use Rattle.far_events.specs.events.Naming.{is_dropped}
 use Rattle.far_core.specs.state.Room.{room}
-use Rattle.far_core.specs.state.State.{State}
+use Rattle.far_events.specs.state.State.{State}
 use Rattle.far_hand.specs.Finds.{Finds}
 use Rattle.far_hand.specs.Known.{IsKnown, KeepsKnown}
 use Rattle.far_book.specs.book.Effects.{moved, stayed, order_after, retired, with_free_cell}

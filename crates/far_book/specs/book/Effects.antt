@@ -6,12 +6,12 @@ use Rattle.far_word.specs.declared.pointer.PtrWord.TheVariants.{Free, Near, Far}
 use Rattle.far_word.specs.Header.{head_word}
 use Rattle.far_word.specs.Pointer.{read_of, word_of}
 use Rattle.far_word.specs.Sizes.{words_for}
-use Rattle.far_core.specs.declared.event.Event.TheVariants.{Name, Mark}
-use Rattle.far_core.specs.events.Copies.{data_at}
-use Rattle.far_core.specs.events.Naming.{no_marks, unmarked}
-use Rattle.far_core.specs.events.Ranges.{with_row}
-use Rattle.far_core.specs.events.Step.{after}
-use Rattle.far_core.specs.state.State.{State, put, addr}
+use Rattle.far_events.specs.declared.event.Event.TheVariants.{Name, Mark}
+use Rattle.far_events.specs.events.Copies.{data_at}
+use Rattle.far_events.specs.events.Naming.{no_marks, unmarked}
+use Rattle.far_events.specs.events.Ranges.{with_row}
+use Rattle.far_events.specs.events.Step.{after}
+use Rattle.far_events.specs.state.State.{State, put, addr}
 
 -- the cell of an object that lies near, without marks but DIRTY, and that as said
 abbrev pub near_word : Bool → ℕ → ℕ → Place → ℕ

@@ -6,8 +6,8 @@ use Rattle.far_word.specs.declared.pointer.PtrWord.TheVariants.{Near, Far}
 use Rattle.far_word.specs.declared.sizes.TheConstants.{LOG_WORDS, LONGEST}
 use Rattle.far_word.specs.Pointer.{read_of}
 use Rattle.far_word.specs.Sizes.{words_for}
-use Rattle.far_core.specs.events.Naming.{is_dropped, no_marks}
-use Rattle.far_core.specs.state.State.{State, addr}
+use Rattle.far_events.specs.events.Naming.{is_dropped, no_marks}
+use Rattle.far_events.specs.state.State.{State, addr}
 use Rattle.far_hand.specs.Known.{IsKnown, IsPaddedAt, KeepsKnown}
 use Rattle.far_hand.specs.Quiet.{IsQuietAt, is_quiet}
 use Rattle.far_book.specs.book.Effects.{evicted}

@@ -8,10 +8,10 @@ use Rattle.far_word.specs.declared.refused.Refused.{Refused}
 use Rattle.far_word.specs.declared.refused.Refused.TheVariants.{Memory, NoRoom, Device, Damaged}
 use Rattle.far_word.specs.Pointer.{read_of}
 use Rattle.far_word.specs.Sizes.{size_of, words_for}
-use Rattle.far_core.specs.events.Copies.{Alike}
-use Rattle.far_core.specs.state.Law.{IsStored}
+use Rattle.far_events.specs.events.Copies.{Alike}
+use Rattle.far_events.specs.state.Law.{IsStored}
 use Rattle.far_core.specs.state.Room.{room}
-use Rattle.far_core.specs.state.State.{State}
+use Rattle.far_events.specs.state.State.{State}
 use Rattle.far_hand.specs.Known.{Forgets}
 use Rattle.far_book.specs.book.Effects.{fetched, order_after}
 

@@ -5,12 +5,12 @@ use Rattle.far_word.specs.declared.refused.Refused as refusals
 use Rattle.far_word.specs.declared.refused.Refused.TheVariants.{EpochsSpent}
 use Rattle.far_word.specs.declared.sizes.TheConstants.{EPOCH_END}
 use Rattle.far_word.specs.Mark.{position}
-use Rattle.far_core.specs.declared.event.Event.{Event}
-use Rattle.far_core.specs.declared.event.Event.TheVariants.{See, Mark, Clear, Advance, Look}
-use Rattle.far_core.specs.declared.event.Reply.{Reply}
-use Rattle.far_core.specs.declared.event.Reply.TheVariants.{Word, Epoch, Refused}
-use Rattle.far_core.specs.events.Step.{after}
-use Rattle.far_core.specs.state.State.{State, put}
+use Rattle.far_events.specs.declared.event.Event.{Event}
+use Rattle.far_events.specs.declared.event.Event.TheVariants.{See, Mark, Clear, Advance, Look}
+use Rattle.far_events.specs.declared.event.Reply.{Reply}
+use Rattle.far_events.specs.declared.event.Reply.TheVariants.{Word, Epoch, Refused}
+use Rattle.far_events.specs.events.Step.{after}
+use Rattle.far_events.specs.state.State.{State, put}
 use Rattle.far_hand.specs.Came.{Came}
 use Rattle.far_hand.specs.Cleared.{cleared}
 use Rattle.far_hand.specs.Finds.{Finds}

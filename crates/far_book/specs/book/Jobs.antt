@@ -6,9 +6,9 @@ use Rattle.far_word.specs.declared.pointer.PtrWord.{PtrWord}
 use Rattle.far_word.specs.declared.pointer.PtrWord.TheVariants.{Free, Near, Far}
 use Rattle.far_word.specs.Pointer.{read_of}
 use Rattle.far_word.specs.declared.sizes.TheConstants.{JOBS}
-use Rattle.far_core.specs.events.Copied.{is_place}
-use Rattle.far_core.specs.state.Jobs.{IsGood, job_at, near_place}
-use Rattle.far_core.specs.state.State.{Copying, State}
+use Rattle.far_events.specs.events.Copied.{is_place}
+use Rattle.far_events.specs.state.Jobs.{IsGood, job_at, near_place}
+use Rattle.far_events.specs.state.State.{Copying, State}
 use Rattle.far_book.specs.declared.jobs.Jobs.{Jobs}
 use Rattle.far_book.specs.declared.jobs.Noted.{Noted}
 use Rattle.far_book.specs.book.NumberSet.{has}

@@ -8,16 +8,17 @@ use Rattle.far_word.specs.declared.sizes.TheConstants.{CELLS, LONGEST}
 use Rattle.far_word.specs.Header.{head_word}
 use Rattle.far_word.specs.Pointer.{read_of}
 use Rattle.far_word.specs.Sizes.{size_of, words_for}
-use Rattle.far_core.specs.declared.event.Kind.TheVariants.{Free, Open, Sealed}
-use Rattle.far_core.specs.events.Copies.{Alike, data_at}
-use Rattle.far_core.specs.events.Get.{IsUncopied, IsVacant}
-use Rattle.far_core.specs.events.Naming.{is_dropped, no_marks, unmarked}
-use Rattle.far_core.specs.events.Quiet.{is_quiet}
-use Rattle.far_core.specs.state.Law.{Law, Blank, IsStored, is_dirty}
+use Rattle.far_events.specs.declared.event.Kind.TheVariants.{Free, Open, Sealed}
+use Rattle.far_events.specs.events.Copies.{Alike, data_at}
+use Rattle.far_events.specs.events.Get.{IsUncopied, IsVacant}
+use Rattle.far_events.specs.events.Naming.{is_dropped, no_marks, unmarked}
+use Rattle.far_events.specs.events.Quiet.{is_quiet}
+use Rattle.far_events.specs.state.Law.{Law, Blank, IsStored, is_dirty}
 use Rattle.far_core.specs.state.Room.{room}
-use Rattle.far_core.specs.state.Spans.{spans_of}
-use Rattle.far_core.specs.state.State.{State, addr}
-use Rattle.far_core.specs.world.Changes.{Step, GoesFar, Makes, ComesNear, Moves, Releases, Unmarks}
+use Rattle.far_events.specs.state.Spans.{spans_of}
+use Rattle.far_events.specs.state.State.{State, addr}
+use Rattle.far_core.specs.world.Changes.{Step}
+use Rattle.far_events.specs.events.Changes.{GoesFar, Makes, ComesNear, Moves, Releases, Unmarks}
 use Rattle.far_core.specs.world.WorldOf.{world_of}
 use Rattle.far_book.specs.book.Effects.{evicted, placed, retired, fetched, moved, stayed}
 use Rattle.far_book.specs.book.Reached.{Reached}

@@ -7,11 +7,11 @@ use Rattle.far_word.specs.declared.sizes.TheConstants.{CELLS, LOG_WORDS}
 use Rattle.far_word.specs.Header.{head_word}
 use Rattle.far_word.specs.Pointer.{read_of}
 use Rattle.far_word.specs.Sizes.{size_of, words_for}
-use Rattle.far_core.specs.events.Copies.{Alike, data_at, EndsPadded}
-use Rattle.far_core.specs.events.Legal.{IsNext}
-use Rattle.far_core.specs.events.Ranges.{with_row}
-use Rattle.far_core.specs.state.Law.{Law}
-use Rattle.far_core.specs.state.State.{State, addr, put}
+use Rattle.far_events.specs.events.Copies.{Alike, data_at, EndsPadded}
+use Rattle.far_events.specs.events.Legal.{IsNext}
+use Rattle.far_events.specs.events.Ranges.{with_row}
+use Rattle.far_events.specs.state.Law.{Law}
+use Rattle.far_events.specs.state.State.{State, addr, put}
 use Rattle.far_hand.specs.Known.{IsKnown, KeepsKnown}
 use Rattle.far_hand.specs.Quiet.{is_quiet}
 use Rattle.far_book.specs.book.Effects.{with_written_span}

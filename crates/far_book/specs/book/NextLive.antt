@@ -8,9 +8,9 @@ use Rattle.far_word.specs.Pointer.{read_of}
 use Rattle.far_word.specs.Sizes.{size_of}
 use Rattle.far_log.specs.declared.span.Span.{Span}
 use Rattle.far_log.specs.Spans.{Tile}
-use Rattle.far_core.specs.state.Law.{Law}
-use Rattle.far_core.specs.state.Spans.{spans_of, is_live}
-use Rattle.far_core.specs.state.State.{State}
+use Rattle.far_events.specs.state.Law.{Law}
+use Rattle.far_events.specs.state.Spans.{spans_of, is_live}
+use Rattle.far_events.specs.state.State.{State}
 use Rattle.far_book.specs.declared.live_span.LiveSpan.{LiveSpan}
 use Rattle.far_book.specs.book.Own.{own_part}
 

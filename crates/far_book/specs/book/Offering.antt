@@ -10,15 +10,15 @@ use Rattle.far_word.specs.Header.{IsHead, head_word}
 use Rattle.far_word.specs.Job.{job_of}
 use Rattle.far_word.specs.Pointer.{IsPtr, read_of}
 use Rattle.far_word.specs.Sizes.{words_for}
-use Rattle.far_core.specs.declared.event.Event.TheVariants.{Offer}
-use Rattle.far_core.specs.events.Legal.{IsNext}
-use Rattle.far_core.specs.events.Naming.{no_marks}
-use Rattle.far_core.specs.declared.event.Kind.TheVariants.{Open}
-use Rattle.far_core.specs.events.Quiet.{IsClearNear}
-use Rattle.far_core.specs.events.Step.{after}
-use Rattle.far_core.specs.state.Jobs.{near_place}
-use Rattle.far_core.specs.state.Law.{Law}
-use Rattle.far_core.specs.state.State.{State, put, addr}
+use Rattle.far_events.specs.declared.event.Event.TheVariants.{Offer}
+use Rattle.far_events.specs.events.Legal.{IsNext}
+use Rattle.far_events.specs.events.Naming.{no_marks}
+use Rattle.far_events.specs.declared.event.Kind.TheVariants.{Open}
+use Rattle.far_events.specs.events.Quiet.{IsClearNear}
+use Rattle.far_events.specs.events.Step.{after}
+use Rattle.far_events.specs.state.Jobs.{near_place}
+use Rattle.far_events.specs.state.Law.{Law}
+use Rattle.far_events.specs.state.State.{State, put, addr}
 use Rattle.far_hand.specs.Finds.{Finds}
 use Rattle.far_hand.specs.Known.{Forgets}
 use Rattle.far_book.specs.book.Dealing.{goal}

@@ -1,8 +1,8 @@
 -- Which events a function's calls of its hand are, where all of them are of one kind.
 use Rattle.std.specs.Prelude.{◌≡◌, ℕ, Bool, false}
 use Rattle.far_word.specs.declared.pointer.Place.{Place}
-use Rattle.far_core.specs.declared.event.Event.{Event}
-use Rattle.far_core.specs.declared.event.Event.TheVariants.{Get, Put, Name}
+use Rattle.far_events.specs.declared.event.Event.{Event}
+use Rattle.far_events.specs.declared.event.Event.TheVariants.{Get, Put, Name}
 use Rattle.far_book.specs.book.Effects.{near_word}
 
 -- a word of this log is read, and the log isn't given back

@@ -3,8 +3,8 @@ use Rattle.std.specs.Prelude.{◌≡◌, ℕ, false, cond, Option, Some, None}
 use Rattle.far_word.specs.declared.job.JobWord.{JobWord}
 use Rattle.far_word.specs.declared.job.JobWord.TheVariants.{Empty, Offered, Taken, Finished}
 use Rattle.far_word.specs.Job.{job_of, job_word}
-use Rattle.far_core.specs.state.Opening.{for_copiers, opening}
-use Rattle.far_core.specs.state.State.{Copying, State}
+use Rattle.far_events.specs.state.Opening.{for_copiers, opening}
+use Rattle.far_events.specs.state.State.{Copying, State}
 use Rattle.far_hand.specs.Beside.{hidden, uncopied}
 use Rattle.far_hand.specs.ShapeOf.{shape_of}
 

@@ -7,11 +7,11 @@ use Rattle.far_word.specs.declared.pointer.PtrWord.TheVariants.{Near, Far}
 use Rattle.far_word.specs.declared.sizes.TheConstants.{CELLS}
 use Rattle.far_word.specs.Header.{head_word}
 use Rattle.far_word.specs.Pointer.{IsPtr, read_of}
-use Rattle.far_core.specs.events.Legal.{IsNext}
-use Rattle.far_core.specs.events.Naming.{no_marks}
-use Rattle.far_core.specs.events.NewSpans.{with_span}
-use Rattle.far_core.specs.state.Spans.{names_place}
-use Rattle.far_core.specs.state.State.{State, put, addr}
+use Rattle.far_events.specs.events.Legal.{IsNext}
+use Rattle.far_events.specs.events.Naming.{no_marks}
+use Rattle.far_events.specs.events.NewSpans.{with_span}
+use Rattle.far_events.specs.state.Spans.{names_place}
+use Rattle.far_events.specs.state.State.{State, put, addr}
 use Rattle.far_book.specs.book.Effects.{near_word}
 
 -- a pointer of the heap that names no place, a length and a data structure on the layout, a place where the next span may stand and fits; and

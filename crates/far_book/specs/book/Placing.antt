@@ -4,11 +4,11 @@ use Rattle.far_word.specs.declared.pointer.Place.{Place}
 use Rattle.far_word.specs.declared.refused.Refused.{Refused}
 use Rattle.far_word.specs.declared.refused.Refused.TheVariants.{NoRoom}
 use Rattle.far_word.specs.Sizes.{size_of}
-use Rattle.far_core.specs.events.NewObjects.{made_with, places_with}
-use Rattle.far_core.specs.events.Ranges.{AllLegal, after_events}
+use Rattle.far_events.specs.events.NewObjects.{made_with, places_with}
+use Rattle.far_events.specs.events.Ranges.{AllLegal, after_events}
 use Rattle.far_core.specs.state.CoreState.{core_state}
 use Rattle.far_core.specs.state.Room as rooms
-use Rattle.far_core.specs.state.State.{State}
+use Rattle.far_events.specs.state.State.{State}
 use Rattle.far_hand.specs.declared.plain.Plain.{Plain}
 use Rattle.far_book.specs.book.BookOf.{BookOf}
 use Rattle.far_book.specs.book.Effects.{order_after}

@@ -1,10 +1,10 @@
 -- Which states the legal events of the core lead to.
 use Rattle.std.specs.Prelude.{◌≡◌, List, All}
-use Rattle.far_core.specs.declared.event.Event.{Event}
-use Rattle.far_core.specs.declared.event.Event.TheVariants.{Adopt, Ask, Claim, Close, Finish, Load, Open, PeekJob, Pin, Read, ReadEpoch, ReadLength, Soil, Store, Write}
-use Rattle.far_core.specs.events.Ranges.{AllLegal, after_events}
-use Rattle.far_core.specs.events.Step.{Fits}
-use Rattle.far_core.specs.state.State.{State}
+use Rattle.far_events.specs.declared.event.Event.{Event}
+use Rattle.far_events.specs.declared.event.Event.TheVariants.{Adopt, Ask, Claim, Close, Finish, Load, Open, PeekJob, Pin, Read, ReadEpoch, ReadLength, Soil, Store, Write}
+use Rattle.far_events.specs.events.Ranges.{AllLegal, after_events}
+use Rattle.far_events.specs.events.Step.{Fits}
+use Rattle.far_events.specs.state.State.{State}
 
 -- an event that no owner and no copier makes: the book's alone
 abbrev pub IsOfBook : Event → Type 0

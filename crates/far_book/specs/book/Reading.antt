@@ -1,6 +1,6 @@
 -- What a word of a log is read as, while owners store into their objects.
 use Rattle.std.specs.Prelude.{◌≡◌, ℕ, true}
-use Rattle.far_core.specs.state.State.{State}
+use Rattle.far_events.specs.state.State.{State}
 use Rattle.far_hand.specs.Known.{IsKnown, IsPaddedAt}
 
 -- the header of each span is known

@@ -2,9 +2,9 @@
 use Rattle.std.specs.Prelude.{◌≡◌, ◌≢◌, ℕ, ◌==◌, ◌||◌, not, true, List}
 use Rattle.std.specs.List.{filter}
 use Rattle.std.specs.Vec.{vec_len}
-use Rattle.far_core.specs.declared.event.Event.TheVariants.{Get}
-use Rattle.far_core.specs.events.Step.{after}
-use Rattle.far_core.specs.state.State.{State}
+use Rattle.far_events.specs.declared.event.Event.TheVariants.{Get}
+use Rattle.far_events.specs.events.Step.{after}
+use Rattle.far_events.specs.state.State.{State}
 use Rattle.far_book.specs.declared.ledger.Ledger.{Ledger}
 use Rattle.far_book.specs.book.Ledger.{filled_of}
 use Rattle.far_book.specs.book.NumberSet.{has}

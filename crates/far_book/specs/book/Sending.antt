@@ -4,11 +4,11 @@ use Rattle.far_word.specs.declared.pointer.Place.{Place}
 use Rattle.far_word.specs.declared.refused.Refused.{Refused}
 use Rattle.far_word.specs.declared.refused.Refused.TheVariants.{Memory, Device}
 use Rattle.far_word.specs.Bytes.{bytes_of}
-use Rattle.far_core.specs.declared.event.Event.{Event}
-use Rattle.far_core.specs.declared.event.Reply.{Reply}
-use Rattle.far_core.specs.events.Copies.{data_at}
-use Rattle.far_core.specs.state.Law.{IsStored}
-use Rattle.far_core.specs.state.State.{State}
+use Rattle.far_events.specs.declared.event.Event.{Event}
+use Rattle.far_events.specs.declared.event.Reply.{Reply}
+use Rattle.far_events.specs.events.Copies.{data_at}
+use Rattle.far_events.specs.state.Law.{IsStored}
+use Rattle.far_events.specs.state.State.{State}
 use Rattle.far_device.specs.declared.fault.DeviceFault.{DeviceFault}
 use Rattle.far_device.specs.Following.{Follows, other_than}
 use Rattle.far_hand.specs.Came.{Came, only}

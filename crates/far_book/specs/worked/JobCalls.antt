@@ -1,15 +1,15 @@
 -- Lists of the book's calls on jobs, and of others' events, on a heap that nobody else steps, and what they answer: for worked examples.
-use Rattle.std.specs.Prelude.{ℕ, true, Option, Some, None, List, [], ◌∷◌}
+use Rattle.std.specs.Prelude.{◌≡◌, ℕ, true, Option, Some, None, List, [], ◌∷◌, map}
 use Rattle.far_log.specs.declared.row.LogRow.{LogRow}
 use Rattle.far_word.specs.declared.pointer.Place.{Place}
 use Rattle.far_word.specs.declared.sizes.TheConstants.{JOBS}
 use Rattle.far_word.specs.Sizes.{size_of}
-use Rattle.far_core.specs.declared.event.Event.{Event}
-use Rattle.far_core.specs.declared.event.Reply.{Reply}
-use Rattle.far_core.specs.events.Step.{step_of}
-use Rattle.far_core.specs.state.Opening.{opening}
+use Rattle.far_events.specs.declared.event.Event.{Event}
+use Rattle.far_events.specs.declared.event.Reply.{Reply}
+use Rattle.far_events.specs.events.Step.{step_of}
+use Rattle.far_events.specs.state.Opening.{opening}
 use Rattle.far_core.specs.state.Room.{room}
-use Rattle.far_core.specs.state.State.{State}
+use Rattle.far_events.specs.state.State.{State}
 use Rattle.far_book.specs.book.Collecting.{all_back, all_collected}
 use Rattle.far_book.specs.book.Dealing.{goal, moved_now}
 use Rattle.far_book.specs.book.Effects.{placed}
@@ -73,3 +73,22 @@ answers s (c ∷ cs) = let turn = turn_of s c in turn.1 ∷ answers turn.0 cs
 abbrev pub led_by : State → List Call → State
 led_by s [] = s
 led_by s (c ∷ cs) = led_by (turn_of s c).0 cs
+
+-- a call, and what it is to answer
+infix 68 ◌⟶◌
+pub data Line : Type 0 where
+  ◌⟶◌ : (call : Call) → (answer : Answer) → Line
+
+abbrev pub call_of : Line → Call
+call_of (call ⟶ answer) = call
+
+abbrev pub answer_of : Line → Answer
+answer_of (call ⟶ answer) = answer
+
+-- from this state on each call answers what stands behind it
+abbrev pub Plays : State → List Line → Type 0
+Plays s lines = answers s (map call_of lines) ≡ map answer_of lines
+
+-- the state after such calls
+abbrev pub after : List Line → State
+after lines = led_by start (map call_of lines)

@@ -6,9 +6,9 @@ ghost use Rattle.far_word.specs.declared.job.JobWord.TheVariants.{Finished, Offe
 ghost use Rattle.far_word.specs.declared.sizes.TheConstants.{CELLS, JOBS};
 ghost use Rattle.far_word.specs.Job.{job_of};
 ghost use Rattle.far_word.specs.Pointer.{read_of};
-ghost use Rattle.far_core.specs.events.Collect.{collected, is_loose};
-ghost use Rattle.far_core.specs.state.Jobs.{is_finished, job_at};
-ghost use Rattle.far_core.specs.state.Spans.{names_place};
+ghost use Rattle.far_events.specs.events.Collect.{collected, is_loose};
+ghost use Rattle.far_events.specs.state.Jobs.{is_finished, job_at};
+ghost use Rattle.far_events.specs.state.Spans.{names_place};
 ghost use Rattle.far_hand.specs.Came.{Came};
 ghost use Rattle.far_hand.specs.FindsJob.{FindsJob, job_found};
 ghost use Rattle.far_book.specs.book.Collecting.{BackKnown, CollectsJob, GoesAsFound, IsDropped, IsNamed, MayBeNamed, back_known, goes, goes_known, is_void, named};
@@ -71,13 +71,18 @@ impl<N: Near + Drop, D: Device + Drop> Book<N, D> {
 
     // Ends a job by the words that were found last; whether it was named.
     fn end_job(&mut self, job: u8, noted: Noted, word: u64, cell: u64) -> bool
+        // the job is what its word says as the book knows it, and so is the cell of its pointer; it's noted whether its round lasts and still has its log
         requires range { job < JOBS }
         requires seen { word ≡ (N.view self.old.near).copying.word job }
         requires is { job_at (N.view self.old.near).copying.word job ≡ Some noted.job }
         requires good { noted.good ≡ is_good (N.view self.old.near).round_epoch (N.view self.old.near).round (N.view self.old.near).copying.since job noted.job }
         requires found { cell ≡ (N.view self.old.near).cell noted.job.pointer }
+
+        // the job has gone as the words say that were found last, over a hand that is still those that were known; the answer is whether it was named
         ensures goes { GoesAsFound (N.view self.old.near) (N.view self.new.near) job noted.job result }
         ensures exact { N.still → goes_known (N.view self.old.near) job (Some noted.job) ≡ (N.view self.new.near, result) }
+
+        // only calls of the hand led there; the order of logs and the device stay
         ensures came { Came N.makes self.old.near self.new.near }
         ensures order { self.new.order ≡ self.old.order }
         ensures device { self.new.device ≡ self.old.device }
@@ -116,13 +121,18 @@ impl<N: Near + Drop, D: Device + Drop> Book<N, D> {
     // Names a finished job's pointer to its target, unless the job is void or the object dropped, and empties the job; whether it
     // was named.
     fn end_finished(&mut self, job: u8, what: Job, word: u64, cell: u64, void: bool) -> bool
+        // a copier has finished the job, as the book knows its word and its pointer's cell, and `void` is whether it's to be named no more
         requires range { job < JOBS }
         requires seen { word ≡ (N.view self.old.near).copying.word job }
         requires finished { (c : ℕ) × (job_of word ≡ Some (Finished what c)) }
         requires found { cell ≡ (N.view self.old.near).cell what.pointer }
         requires void { void ≡ is_void (N.view self.old.near) job what (read_of cell) }
+
+        // the job has gone as the words say that were found last, over a hand that is still those that were known; the answer is whether it was named
         ensures goes { GoesAsFound (N.view self.old.near) (N.view self.new.near) job what result }
         ensures exact { N.still → goes_known (N.view self.old.near) job (Some what) ≡ (N.view self.new.near, result) }
+
+        // only calls of the hand led there; the order of logs and the device stay
         ensures came { Came N.makes self.old.near self.new.near }
         ensures order { self.new.order ≡ self.old.order }
         ensures device { self.new.device ≡ self.old.device }
@@ -193,14 +203,21 @@ impl<N: Near + Drop, D: Device + Drop> Book<N, D> {
 
     // Empties a job that no copier has, where it still is as it was found last. `Err` with the word that was found instead.
     fn empty_job(&mut self, job: u8, word: u64) -> Result<(), u64>
+        // the job is offered or finished, as the book knows its word
         requires range { job < JOBS }
         requires seen { word ≡ (N.view self.old.near).copying.word job }
         requires loose { is_loose (job_of word) ≡ true }
+
+        // done: the job is empty, and nothing else has changed
         ensures done { IfOk result (λ _. N.view self.new.near ≡ collected (N.view self.old.near) job) }
+
+        // else, never over a hand that is still, its word is another, by what copiers made of the job; the book knows it, and nothing else has changed
         ensures other { IfErr result (λ found. found ≢ word) }
         ensures found { IfErr result (λ found. FindsJob word found) }
         ensures kept { IfErr result (λ found. N.view self.new.near ≡ job_found (N.view self.old.near) job found) }
         ensures won { N.still → IfErr result (λ _. ⊥) }
+
+        // only calls of the hand led there; the order of logs and the device stay
         ensures came { Came N.makes self.old.near self.new.near }
         ensures order { self.new.order ≡ self.old.order }
         ensures device { self.new.device ≡ self.old.device }

@@ -8,9 +8,9 @@ ghost use Rattle.far_word.specs.Bytes.{packed_word};
 ghost use Rattle.far_word.specs.Header.{IsHead};
 ghost use Rattle.far_word.specs.Pointer.{IsPtr, read_of};
 ghost use Rattle.far_word.specs.Sizes.{words_for};
-ghost use Rattle.far_core.specs.events.Legal.{IsNext};
-ghost use Rattle.far_core.specs.events.Naming.{is_dropped, no_marks};
-ghost use Rattle.far_core.specs.state.Law.{IsStored};
+ghost use Rattle.far_events.specs.events.Legal.{IsNext};
+ghost use Rattle.far_events.specs.events.Naming.{is_dropped, no_marks};
+ghost use Rattle.far_events.specs.state.Law.{IsStored};
 ghost use Rattle.far_hand.specs.Finds.{Finds};
 ghost use Rattle.far_hand.specs.Came.{Came, only};
 ghost use Rattle.far_book.specs.book.Calls.{FetchesObject};
@@ -99,23 +99,34 @@ fn come_near<N: Near>(
     place: Place,
     bytes: &[u8],
 ) -> Result<(), u64>
+    // the pointer's object is far and not dropped, as its cell was found, and header and cell have words for it near
     requires pointer { pointer < CELLS * (N.view near.old).mutators }
     requires found { found ≡ (N.view near.old).cell pointer }
     requires absent { IsAbsent (read_of found) len ds }
     requires head { IsHead record { pointer = pointer; len = len; ds = ds } }
     requires layout { IsPtr (near_at len ds place no_marks) }
+
+    // the next span may stand at the place
     requires next { IsNext (N.view near.old) place }
     requires tail { (N.view near.old).tail place.log ≡ place.at }
+
+    // the bytes are as many as the object has, and those that were stored, if the far side is honest
     requires long { length bytes.now ≡ len }
     requires stored { (N.view near.old).honest ≡ true → (i : ℕ) → i < words_for len → packed_word bytes.now i ≡ (N.view near.old).stored pointer i }
+
+    // done: the object lies there with these bytes, and zeros behind them; its cell still was as found, perhaps with marks more
     ensures padded { IsStored (packed_word bytes.now) len }
     ensures done { IfOk result (λ _. Renamed (with_written_span (N.view near.old) pointer len ds place (packed_word bytes.now)) (N.view near.new) pointer (near_word false len ds place)) }
     ensures set { N.still → IfOk result (λ _. N.view near.new ≡ fetched (N.view near.old) pointer place (packed_word bytes.now)) }
+
+    // else, never over a hand that is still, its owner has dropped it: the cell has the word that was found, with DROP, and the span is there, and dead
     ensures won { N.still → IfErr result (λ _. ⊥) }
     ensures fits { IfErr result (λ word. word < 2 ^ 64) }
     ensures found { IfErr result (λ word. Finds found word) }
     ensures dropped { IfErr result (λ word. is_dropped (read_of word) ≡ true) }
     ensures kept { IfErr result (λ word. N.view near.new ≡ seen (with_written_span (N.view near.old) pointer len ds place (packed_word bytes.now)) pointer word) }
+
+    // only calls of the hand led there
     ensures came { Came N.makes near.old near.new }
 {
     put_object(near, pointer, len, ds, place, bytes);

@@ -6,9 +6,9 @@ ghost use Rattle.far_word.specs.declared.sizes.TheConstants.{CELLS, LONGEST};
 ghost use Rattle.far_word.specs.Bytes.{bytes_of};
 ghost use Rattle.far_word.specs.Pointer.{read_of};
 ghost use Rattle.far_word.specs.Sizes.{words_for};
-ghost use Rattle.far_core.specs.events.Copies.{data_at};
-ghost use Rattle.far_core.specs.events.Naming.{is_dropped};
-ghost use Rattle.far_core.specs.state.Law.{IsStored, is_dirty};
+ghost use Rattle.far_events.specs.events.Copies.{data_at};
+ghost use Rattle.far_events.specs.events.Naming.{is_dropped};
+ghost use Rattle.far_events.specs.state.Law.{IsStored, is_dirty};
 ghost use Rattle.far_hand.specs.Finds.{Finds};
 ghost use Rattle.far_hand.specs.Came.{Came, only};
 ghost use Rattle.far_hand.specs.Known.{Forgets};
@@ -97,19 +97,26 @@ impl<N: Near + Drop, D: Device + Drop> Book<N, D> {
         ds: u8,
         place: Place,
     ) -> Option<u64>
+        // the object is near and quiet, with EVAC and without DROP, as its cell was found
         requires pointer { pointer < CELLS * (N.view self.old.near).mutators }
         requires found { found ≡ (N.view self.old.near).cell pointer }
         requires near { IsQuietIn (N.view self.old.near) pointer len ds place }
         requires evac { has_evac (read_of found) ≡ true }
         requires alive { is_dropped (read_of found) ≡ false }
+
+        // `None`: it had no DIRTY, and is far: the last call gave its cell the far word
         ensures left { result ≡ None → N.view self.new.near ≡ record (evicted (N.view self.old.near) pointer) { word = (N.view self.new.near).word; stored = (N.view self.new.near).stored } }
         ensures far { result ≡ None → (is_dirty (read_of found) ≡ false) × Renamed (N.view self.old.near) (N.view self.new.near) pointer (far_word len ds) }
         ensures won_by { result ≡ None → IsWonBy N.makes self.new.near pointer found (far_word len ds) }
         ensures away { N.still → result ≡ None → N.view self.new.near ≡ evicted (N.view self.old.near) pointer }
+
+        // else the word that was found, over a hand that is still the one from before, has DROP or DIRTY; the book knows it, and nothing else has changed
         ensures found { IfSome result (λ word. Finds found word) }
         ensures kept { IfSome result (λ word. N.view self.new.near ≡ seen (N.view self.old.near) pointer word) }
         ensures marked { IfSome result (λ word. (is_dropped (read_of word) ≡ true) ⊎ (is_dirty (read_of word) ≡ true)) }
         ensures won { N.still → IfSome result (λ word. word ≡ found) }
+
+        // no call was made but namings of this cell; the order of logs and the device stay
         ensures names { Came (only (Names pointer (far_word len ds)) N.makes) self.old.near self.new.near }
         ensures order { self.new.order ≡ self.old.order }
         ensures device { self.new.device ≡ self.old.device }
@@ -155,22 +162,31 @@ impl<N: Near + Drop, D: Device + Drop> Book<N, D> {
         ds: u8,
         place: Place,
     ) -> Result<(), u64>
+        // the object is near and quiet, with EVAC and without DROP, as its cell was found
         requires pointer { pointer < CELLS * (N.view self.old.near).mutators }
         requires found { found ≡ (N.view self.old.near).cell pointer }
         requires near { IsQuietIn (N.view self.old.near) pointer len ds place }
         requires evac { has_evac (read_of found) ≡ true }
         requires alive { is_dropped (read_of found) ≡ false }
+
+        // where it has DIRTY its words are known, and the device holds them
         requires words { is_dirty (read_of found) ≡ true → IsStored (data_at (N.view self.old.near).word place) len }
         requires held { is_dirty (read_of found) ≡ true → D.contents self.old.device pointer ≡ Some (bytes_of (data_at (N.view self.old.near).word place) len) }
+
+        // done: it is far: the last call gave its cell the far word; words may have been forgotten, but over a hand that is still
         ensures far { IfOk result (λ _. N.view self.new.near ≡ record (evicted (N.view self.old.near) pointer) { word = (N.view self.new.near).word; stored = (N.view self.new.near).stored }) }
         ensures renamed { IfOk result (λ _. Renamed (N.view self.old.near) (N.view self.new.near) pointer (far_word len ds)) }
         ensures won_by { IfOk result (λ _. IsWonBy N.makes self.new.near pointer found (far_word len ds)) }
         ensures forgot { IfOk result (λ _. Forgets (N.view self.old.near) (N.view self.new.near)) }
         ensures set { N.still → IfOk result (λ _. N.view self.new.near ≡ evicted (N.view self.old.near) pointer) }
+
+        // else, never over a hand that is still, the word that was found has DROP, or DIRTY that it hadn't; the book knows it, and nothing else has changed
         ensures won { N.still → IfErr result (λ _. ⊥) }
         ensures found { IfErr result (λ word. Finds found word) }
         ensures stopped { IfErr result (λ word. stops (read_of found) (read_of word) ≡ true) }
         ensures kept { IfErr result (λ word. N.view self.new.near ≡ seen (N.view self.old.near) pointer word) }
+
+        // no call was made but namings of this cell; the order of logs and the device stay
         ensures names { Came (only (Names pointer (far_word len ds)) N.makes) self.old.near self.new.near }
         ensures order { self.new.order ≡ self.old.order }
         ensures device { self.new.device ≡ self.old.device }

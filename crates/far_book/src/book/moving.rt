@@ -4,8 +4,8 @@ ghost use Rattle.std.specs.Prelude.{◌≡◌, ◌+◌, ◌*◌, ◌<◌, true, 
 ghost use Rattle.far_word.specs.declared.refused.Refused.TheVariants.{NoRoom};
 ghost use Rattle.far_word.specs.declared.sizes.TheConstants.{CELLS};
 ghost use Rattle.far_word.specs.Pointer.{read_of};
-ghost use Rattle.far_core.specs.events.Copies.{data_at};
-ghost use Rattle.far_core.specs.events.Naming.{is_dropped};
+ghost use Rattle.far_events.specs.events.Copies.{data_at};
+ghost use Rattle.far_events.specs.events.Naming.{is_dropped};
 ghost use Rattle.far_book.specs.book.Dealing.{FindsDrop, IsSeen, MovedBy, goal, has_evac, moved_now, order_moved};
 ghost use Rattle.far_hand.specs.Quiet.{IsQuietNear};
 ghost use Rattle.far_hand.specs.Came.{Came, only};
@@ -54,23 +54,35 @@ impl<N: Near + Drop, D: Device + Drop> Book<N, D> {
 
     // As `move_by`, but that an object that its owner has dropped isn't retired yet.
     fn settle(&mut self, pointer: u16, known: Option<u64>) -> Result<Option<Place>, Refused>
+        // the object is near and quiet; its cell's word, where that is known
         requires pointer { pointer < CELLS * (N.view self.old.near).mutators }
         requires quiet { IsQuietNear (N.view self.old.near) pointer }
         requires known { IfSome known (λ word. word ≡ (N.view self.old.near).cell pointer) }
+
+        // done: with EVAC it has moved to where room was, else it stays where it lies; the order has the log that a move has sealed, and the
+        // device stays
         ensures place { IfOk result (λ o. IfSome o (λ place. goal (N.view self.old.near) pointer ≡ Some place)) }
         ensures moved { IfOk result (λ o. IfSome o (λ place. MovedBy (N.view self.old.near) (N.view self.new.near) pointer place)) }
         ensures order { IfOk result (λ o. MatchOption o (self.new.order ≡ self.old.order) (λ place. self.new.order ≡ order_moved (N.view self.old.near) pointer self.old.order place)) }
         ensures device { self.new.device ≡ self.old.device }
+
+        // no place, as always where that was known: its owner has dropped it
         ensures asked { is_dropped (read_of ((N.view self.old.near).cell pointer)) ≡ true → result ≡ Ok None }
         ensures found { IfOk result (λ o. IfNone o (FindsDrop (N.view self.old.near) (N.view self.new.near) pointer)) }
+
+        // refused for want of room alone: nothing has changed but what is known of the object's cell
         ensures refused { IfErr result (λ why. why ≡ NoRoom) }
         ensures none { IfErr result (λ _. goal (N.view self.old.near) pointer ≡ None) }
         ensures seen { IfErr result (λ _. IsSeen (N.view self.old.near) (N.view self.new.near) pointer) }
         ensures words { IfErr result (λ _. (N.view self.new.near).word ≡ (N.view self.old.near).word) }
         ensures kept { IfErr result (λ _. self.new.order ≡ self.old.order) }
+
+        // over a hand that is still it's exactly so, there is no place only where DROP was known, and no refusal changes anything
         ensures exact { N.still → IfOk result (λ o. MatchOption o (N.view self.new.near ≡ N.view self.old.near) (λ place. N.view self.new.near ≡ moved_now (N.view self.old.near) pointer place)) }
         ensures dropped { N.still → IfOk result (λ o. IfNone o (is_dropped (read_of ((N.view self.old.near).cell pointer)) ≡ true)) }
         ensures unchanged { N.still → IfErr result (λ _. N.view self.new.near ≡ N.view self.old.near) }
+
+        // only calls of the hand led there
         ensures came { Came N.makes self.old.near self.new.near }
     {
         let found = self.cell_of(pointer, known);
@@ -86,18 +98,27 @@ impl<N: Near + Drop, D: Device + Drop> Book<N, D> {
     // Moves an object to a place where room is, the last free log too. `None` where its owner has dropped it meanwhile, as its cell
     // says then. Refused [`Refused::NoRoom`] alone.
     fn carry(&mut self, pointer: u16, found: u64) -> Result<Option<Place>, Refused>
+        // the object is near and quiet, with EVAC and without DROP, as its cell was found
         requires pointer { pointer < CELLS * (N.view self.old.near).mutators }
         requires found { found ≡ (N.view self.old.near).cell pointer }
         requires quiet { IsQuietNear (N.view self.old.near) pointer }
         requires wanted { has_evac (read_of found) ≡ true }
         requires alive { is_dropped (read_of found) ≡ false }
+
+        // done: it has moved to where room was; the order has the log that this has sealed
         ensures place { IfOk result (λ o. IfSome o (λ place. goal (N.view self.old.near) pointer ≡ Some place)) }
         ensures moved { IfOk result (λ o. IfSome o (λ place. MovedBy (N.view self.old.near) (N.view self.new.near) pointer place)) }
         ensures order { IfOk result (λ o. MatchOption o (self.new.order ≡ self.old.order) (λ place. self.new.order ≡ order_after (N.view self.old.near) self.old.order place)) }
+
+        // no place: its owner has dropped it meanwhile, which never is over a hand that is still
         ensures dropped { IfOk result (λ o. IfNone o (FindsDrop (N.view self.old.near) (N.view self.new.near) pointer)) }
         ensures exact { N.still → IfOk result (λ o. MatchOption o ⊥ (λ place. N.view self.new.near ≡ moved (N.view self.old.near) pointer place)) }
+
+        // only calls of the hand led there; the device stays
         ensures came { Came N.makes self.old.near self.new.near }
         ensures device { self.new.device ≡ self.old.device }
+
+        // refused for want of room alone: nothing has changed
         ensures refused { IfErr result (λ why. why ≡ NoRoom) }
         ensures none { IfErr result (λ _. goal (N.view self.old.near) pointer ≡ None) }
         ensures unchanged { IfErr result (λ _. self.new ≡ self.old) }
@@ -121,15 +142,22 @@ impl<N: Near + Drop, D: Device + Drop> Book<N, D> {
     // Takes the marks but DIRTY of an object, which stays where it lies. `None` where its owner has dropped it meanwhile, as its cell says
     // then.
     fn stay(&mut self, pointer: u16, found: u64) -> Option<Place>
+        // the object is near and quiet, without EVAC and DROP, as its cell was found
         requires pointer { pointer < CELLS * (N.view self.old.near).mutators }
         requires found { found ≡ (N.view self.old.near).cell pointer }
         requires quiet { IsQuietNear (N.view self.old.near) pointer }
         requires unwanted { has_evac (read_of found) ≡ false }
         requires alive { is_dropped (read_of found) ≡ false }
+
+        // done: it stays where it lies, its cell without marks but DIRTY
         ensures place { IfSome result (λ place. goal (N.view self.old.near) pointer ≡ Some place) }
         ensures stayed { IfSome result (λ place. MovedBy (N.view self.old.near) (N.view self.new.near) pointer place) }
+
+        // no place: its owner has dropped it meanwhile, which never is over a hand that is still
         ensures dropped { IfNone result (FindsDrop (N.view self.old.near) (N.view self.new.near) pointer) }
         ensures exact { N.still → MatchOption result ⊥ (λ _. N.view self.new.near ≡ stayed (N.view self.old.near) pointer) }
+
+        // only calls of the hand led there; the order of logs and the device stay
         ensures came { Came N.makes self.old.near self.new.near }
         ensures order { self.new.order ≡ self.old.order }
         ensures device { self.new.device ≡ self.old.device }

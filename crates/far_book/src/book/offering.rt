@@ -6,11 +6,11 @@ ghost use Rattle.far_word.specs.declared.sizes.TheConstants.{CELLS, JOBS, LOG_WO
 ghost use Rattle.far_word.specs.Header.{IsHead};
 ghost use Rattle.far_word.specs.Pointer.{IsPtr, read_of};
 ghost use Rattle.far_word.specs.Sizes.{size_of};
-ghost use Rattle.far_core.specs.declared.event.Event.{Event};
-ghost use Rattle.far_core.specs.events.Legal.{IsNext};
-ghost use Rattle.far_core.specs.events.Quiet.{IsClearNear};
-ghost use Rattle.far_core.specs.events.Step.{after};
-ghost use Rattle.far_core.specs.state.Jobs.{near_place};
+ghost use Rattle.far_events.specs.declared.event.Event.{Event};
+ghost use Rattle.far_events.specs.events.Legal.{IsNext};
+ghost use Rattle.far_events.specs.events.Quiet.{IsClearNear};
+ghost use Rattle.far_events.specs.events.Step.{after};
+ghost use Rattle.far_events.specs.state.Jobs.{near_place};
 ghost use Rattle.far_hand.specs.Came.{Came};
 ghost use Rattle.far_hand.specs.Known.{Forgets};
 ghost use Rattle.far_book.specs.book.Copies.{OffersObject};

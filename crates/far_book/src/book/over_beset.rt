@@ -1,12 +1,12 @@
 //! The book over a beset hand: what the core shows.
 
 ghost use Rattle.std.specs.Prelude.{◌≡◌, ◌<◌, ℕ, true};
-ghost use Rattle.far_core.specs.declared.event.Event.{Event as event};
-ghost use Rattle.far_core.specs.events.Step.{Fits, step_of};
+ghost use Rattle.far_events.specs.declared.event.Event.{Event as event};
+ghost use Rattle.far_events.specs.events.Step.{Fits, step_of};
 ghost use Rattle.far_core.specs.state.Agrees.{Agrees};
 ghost use Rattle.far_core.specs.state.CoreState.{core_state};
-ghost use Rattle.far_core.specs.state.Law.{Law};
-ghost use Rattle.far_core.specs.state.State.{State};
+ghost use Rattle.far_events.specs.state.Law.{Law};
+ghost use Rattle.far_events.specs.state.State.{State};
 ghost use Rattle.far_hand.specs.BesetView.{beset_may_be, beset_view};
 ghost use Rattle.far_hand.specs.MayBe.{NoneViews, ViewsNone};
 ghost use Rattle.far_hand.specs.Makers.{is_owners};

@@ -2,12 +2,10 @@
 
 ghost use Rattle.std.specs.Prelude.{◌≡◌, ◌*◌, ◌^◌, ◌<◌, false, IsSome};
 ghost use Rattle.far_word.specs.declared.sizes.TheConstants.{CELLS};
-ghost use Rattle.far_word.specs.Pointer.{read_of};
-ghost use Rattle.far_core.specs.events.Naming.{is_dropped};
-ghost use Rattle.far_core.specs.state.Law.{is_dirty};
+ghost use Rattle.far_word.specs.Pointer.{read_of, IsPtr};
+ghost use Rattle.far_events.specs.events.Naming.{is_dropped, no_marks};
+ghost use Rattle.far_events.specs.state.Law.{is_dirty};
 ghost use Rattle.far_word.specs.declared.pointer.PtrWord.TheVariants.{Near as near_at};
-ghost use Rattle.far_word.specs.Pointer.{IsPtr};
-ghost use Rattle.far_core.specs.events.Naming.{no_marks};
 ghost use Rattle.far_book.specs.book.Renaming.{MayRename, MayRenameNear, Renames, RenamesNear, stops};
 
 use crate::book::words::near_word;

@@ -1,10 +1,10 @@
 //! The book's calls of a round: each is one of its hand's.
 
 ghost use Rattle.std.specs.Prelude.{◌≡◌, ◌+◌, ◌<◌, ◌↔◌, true, false};
-ghost use Rattle.far_core.specs.declared.event.Event.{Event};
-ghost use Rattle.far_core.specs.declared.event.Kind.TheVariants.{Sealed};
-ghost use Rattle.far_core.specs.events.Get.{IsUncopied, IsVacant};
-ghost use Rattle.far_core.specs.events.Legal.{Legal};
+ghost use Rattle.far_events.specs.declared.event.Event.{Event};
+ghost use Rattle.far_events.specs.declared.event.Kind.TheVariants.{Sealed};
+ghost use Rattle.far_events.specs.events.Get.{IsUncopied, IsVacant};
+ghost use Rattle.far_events.specs.events.Legal.{Legal};
 ghost use Rattle.far_hand.specs.Came.{Came, only};
 ghost use Rattle.far_hand.specs.Known.{Forgets};
 ghost use Rattle.far_hand.specs.Rounds.{MayChoose};
@@ -47,15 +47,24 @@ impl<N: Near + Drop, D: Device + Drop> Book<N, D> {
     /// Gives a sealed log back, and answers true, if no object lies there, dropped or not, and no job reads or writes it, void or
     /// not; else nothing has changed. Words may be forgotten then.
     pub fn release(&mut self, log: u8) -> bool
+        // the log is sealed
         requires log { log < (N.view self.old.near).logs }
         requires sealed { (N.view self.old.near).kind log ≡ Sealed }
+
+        // true exactly where no object lies there, and no job reads or writes it
         ensures vacant { (result ≡ true) ↔ IsVacant (N.view self.old.near) log × IsUncopied (N.view self.old.near).copying log }
+
+        // true: the log is free; words may have been forgotten, but over a hand that is still
         ensures kept { result ≡ true → N.view self.new.near ≡ record (released (N.view self.old.near) log) { word = (N.view self.new.near).word } }
         ensures forgot { result ≡ true → Forgets (N.view self.old.near) (N.view self.new.near) }
         ensures exact { N.still → result ≡ true → N.view self.new.near ≡ released (N.view self.old.near) log }
+
+        // no call was made but the one that gives this log back
         ensures gives { Came (only (λ e. e ≡ Event.Get log 0 true) N.makes) self.old.near self.new.near }
         ensures came { Came N.makes self.old.near self.new.near }
         ensures ran { N.still → result ≡ true → Does (N.view self.old.near) (Steps (Event.Get log 0 true)) (N.view self.new.near) }
+
+        // the order loses the log then, and the device stays; false: nothing has changed
         ensures order { result ≡ true → self.new.order ≡ order_without log self.old.order }
         ensures device { self.new.device ≡ self.old.device }
         ensures unchanged { result ≡ false → self.new ≡ self.old }

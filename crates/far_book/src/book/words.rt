@@ -3,7 +3,7 @@
 ghost use Rattle.std.specs.Prelude.{◌≡◌};
 ghost use Rattle.far_word.specs.declared.pointer.PtrWord.TheVariants.{Near as near_at, Far as far_at};
 ghost use Rattle.far_word.specs.Pointer.{IsPtr};
-ghost use Rattle.far_core.specs.events.Naming.{no_marks};
+ghost use Rattle.far_events.specs.events.Naming.{no_marks};
 ghost use Rattle.far_book.specs.book.Effects.{near_word, far_word};
 
 use far_word::{Marks, Place, PtrWord};

@@ -4,15 +4,15 @@ use Rattle.std.proofs.lemmas.Bool.{eq-eqb, true≢false}
 use Rattle.std.proofs.lemmas.Bool.Decides.{nat_tests}
 use Rattle.far_core.proofs.Frames.{law_with_owners}
 use Rattle.far_core.proofs.Touching.{by_owner, touched}
-use Rattle.far_core.specs.events.Touch.{Uses}
+use Rattle.far_events.specs.events.Touch.{Uses}
 use Rattle.far_core.proofs.Owed.{Owed, replies}
 use Rattle.far_core.specs.laws.Worlds.{Caused}
-use Rattle.far_core.specs.events.Step.{change_of}
-use Rattle.far_core.proofs.Put.{put_both, put_other, put_same}
-use Rattle.far_core.specs.state.Law.{IsBlank, Law, in_use}
-use Rattle.far_core.specs.state.State.{State, put}
+use Rattle.far_events.specs.events.Step.{change_of}
+use Rattle.far_events.proofs.Put.{put_both, put_other, put_same}
+use Rattle.far_events.specs.state.Law.{IsBlank, Law, in_use}
+use Rattle.far_events.specs.state.State.{State, put}
 use Rattle.far_core.specs.world.WorldOf.{world_of}
-use Rattle.far_core.specs.declared.event.Event.TheVariants.{Adopt}
+use Rattle.far_events.specs.declared.event.Event.TheVariants.{Adopt}
 use Rattle.far_word.specs.Pointer.{read_of}
 
 pub keeps_adopt : (s : State) (p : ℕ) → Law s → in_use (read_of (s.cell p)) ≡ true → Law record s { used = put s.used p true }

@@ -11,25 +11,27 @@ use Rattle.far_word.specs.declared.pointer.PtrWord.TheVariants.{Free, Near, Far}
 use Rattle.far_word.specs.declared.sizes.TheConstants.{CELLS}
 use Rattle.far_word.specs.Mark.{position}
 use Rattle.far_word.specs.Pointer.{read_of}
-use Rattle.far_core.specs.declared.event.Event.TheVariants.{Ask}
-use Rattle.far_core.specs.declared.event.Reply.{Reply}
-use Rattle.far_core.specs.declared.event.Reply.TheVariants.{Word}
-use Rattle.far_core.specs.events.Ask.{is_request, used_after}
-use Rattle.far_core.specs.events.Legal.{Legal}
-use Rattle.far_core.specs.events.Step.{after, change_of}
-use Rattle.far_core.specs.events.Touch.{Uses}
+use Rattle.far_events.specs.declared.event.Event.TheVariants.{Ask}
+use Rattle.far_events.specs.declared.event.Reply.{Reply}
+use Rattle.far_events.specs.declared.event.Reply.TheVariants.{Word}
+use Rattle.far_events.specs.events.Ask.{is_request, used_after}
+use Rattle.far_events.specs.events.Legal.{Legal}
+use Rattle.far_events.specs.events.Step.{after, change_of}
+use Rattle.far_events.specs.events.Touch.{Uses}
 use Rattle.far_core.specs.laws.Worlds.{Caused}
-use Rattle.far_core.specs.state.Law.{Law, HasEvac, IsBlank, held_place, in_use}
-use Rattle.far_core.specs.state.State.{State, put}
+use Rattle.far_events.specs.state.Law.{Law, HasEvac, IsBlank, held_place, in_use}
+use Rattle.far_events.specs.state.State.{State, put}
 use Rattle.far_core.specs.world.Happens.{Happens}
 use Rattle.far_core.specs.world.Steps as world
 use Rattle.far_core.specs.world.WorldOf.{world_of, object_of, is_marked}
-use Rattle.far_core.proofs.Cells.{Remarked, Remarked-map_mark, HasEvac-mark, is_dropped, map_mark, in_use-mark, object_of-mark}
+use Rattle.far_events.proofs.Cells.{Remarked, Remarked-map_mark, HasEvac-mark, map_mark, in_use-mark, in_use_nonzero}
+use Rattle.far_events.specs.events.Naming.{is_dropped}
+use Rattle.far_core.proofs.Cells.{object_of-mark}
 use Rattle.far_core.proofs.Frames.{law_with_cell, law_with_cell_marks}
-use Rattle.far_core.proofs.Guards.{none_from}
-use Rattle.far_core.proofs.Marking.{is_owners, read_mark, in_use_nonzero, is_marked-moved, object_of-dropped, is_marked-dropped, in_use_object, marks_world}
+use Rattle.far_events.proofs.Guards.{none_from}
+use Rattle.far_core.proofs.Marking.{is_owners, read_mark, is_marked-moved, object_of-dropped, is_marked-dropped, in_use_object, marks_world}
 use Rattle.far_core.proofs.Owed.{Owed, replies}
-use Rattle.far_core.proofs.Put.{put_both, put_same, put_other}
+use Rattle.far_events.proofs.Put.{put_both, put_same, put_other}
 use Rattle.far_core.proofs.Touching.{by_owner, one_cell, touched}
 use Rattle.far_core.proofs.Worlds.{World-ext}
 

@@ -9,25 +9,25 @@ use Rattle.far_word.specs.declared.job.JobWord.TheVariants.{Empty, Offered, Take
 use Rattle.far_word.specs.declared.sizes.TheConstants.{JOBS, MOST_COPIERS}
 use Rattle.far_word.specs.Job.{IsJob, job_of, job_word}
 use Rattle.far_word.proofs.JobLaws.{job_back, job_fits, job_says}
-use Rattle.far_core.specs.declared.event.Event.TheVariants.{Claim}
-use Rattle.far_core.specs.declared.event.Reply.{Reply}
-use Rattle.far_core.specs.declared.event.Reply.TheVariants.{Done, Refused, Word}
-use Rattle.far_core.specs.declared.event.Task.{Task}
-use Rattle.far_core.specs.events.Claim.{offered_in, claimed, after_claim, IsOffer, Claims}
-use Rattle.far_core.specs.events.Legal.{Legal}
-use Rattle.far_core.specs.events.Reports.{Reports}
-use Rattle.far_core.specs.events.Step.{change_of, touches}
-use Rattle.far_core.specs.events.Touch.{JobAt, CopierAt, Touches}
+use Rattle.far_events.specs.declared.event.Event.TheVariants.{Claim}
+use Rattle.far_events.specs.declared.event.Reply.{Reply}
+use Rattle.far_events.specs.declared.event.Reply.TheVariants.{Done, Refused, Word}
+use Rattle.far_events.specs.declared.event.Task.{Task}
+use Rattle.far_events.specs.events.Claim.{offered_in, claimed, after_claim, IsOffer, Claims}
+use Rattle.far_events.specs.events.Legal.{Legal}
+use Rattle.far_events.specs.events.Reports.{Reports}
+use Rattle.far_events.specs.events.Step.{change_of, touches}
+use Rattle.far_events.specs.events.Touch.{JobAt, CopierAt, Touches}
 use Rattle.far_core.specs.laws.Worlds.{Caused}
-use Rattle.far_core.specs.state.Jobs.{job_at, job_said}
-use Rattle.far_core.specs.state.Law.{Law}
-use Rattle.far_core.specs.state.State.{State, put}
+use Rattle.far_events.specs.state.Jobs.{job_at, job_said}
+use Rattle.far_events.specs.state.Law.{Law}
+use Rattle.far_events.specs.state.State.{State, put}
 use Rattle.far_core.specs.world.Happens.{Happens}
 use Rattle.far_core.specs.world.WorldOf.{world_of}
-use Rattle.far_core.proofs.Guards.{parts}
+use Rattle.far_events.proofs.Guards.{parts}
 use Rattle.far_core.proofs.KeepJobs.{reworded_jobs, reworded_aims, reworded_good}
 use Rattle.far_core.proofs.Owed.{Owed, replies}
-use Rattle.far_core.proofs.Put.{put_cases, put_cases_of, put_other, put_same}
+use Rattle.far_events.proofs.Put.{put_cases, put_cases_of, put_other, put_same}
 use Rattle.far_core.proofs.Touching.{copier_touched, one_job, untouched}
 
 offered_fact : (old : ℕ) (o : Option JobWord) → job_of old ≡ o → is_some (offered_in o) ≡ true → IsOffer old

@@ -9,21 +9,22 @@ use Rattle.far_word.specs.declared.pointer.PtrWord.TheVariants.{Free, Near, Far}
 use Rattle.far_word.specs.declared.sizes.TheConstants.{CELLS}
 use Rattle.far_word.specs.Pointer.{read_of, without_evac}
 use Rattle.far_word.proofs.PointerLaws.{without_evac_read}
-use Rattle.far_core.specs.declared.event.Event.TheVariants.{Clear}
-use Rattle.far_core.specs.events.Clear.{is_near, IsNear, evac_cleared, round_left, LeavesRound}
-use Rattle.far_core.specs.events.Quiet.{has_move}
-use Rattle.far_core.specs.events.Step.{after, change_of}
-use Rattle.far_core.specs.state.Law.{Law, HasEvac, held_place, in_use}
-use Rattle.far_core.specs.state.State.{State}
-use Rattle.far_core.specs.world.Changes.{StepOf, Stays, Unmarks}
+use Rattle.far_events.specs.declared.event.Event.TheVariants.{Clear}
+use Rattle.far_events.specs.events.Clear.{is_near, IsNear, evac_cleared, round_left, LeavesRound}
+use Rattle.far_events.specs.events.Quiet.{has_move}
+use Rattle.far_events.specs.events.Step.{after, change_of}
+use Rattle.far_events.specs.state.Law.{Law, HasEvac, held_place, in_use}
+use Rattle.far_events.specs.state.State.{State}
+use Rattle.far_core.specs.world.Changes.{StepOf}
+use Rattle.far_events.specs.events.Changes.{Stays, Unmarks}
 use Rattle.far_core.specs.world.World.{Object}
 use Rattle.far_core.specs.world.WorldOf.{world_of, object_of, is_marked}
 use Rattle.far_core.specs.laws.Worlds.{Caused}
-use Rattle.far_core.proofs.Cells.{Remarked, unused}
+use Rattle.far_events.proofs.Cells.{Remarked, unused}
 use Rattle.far_core.proofs.Frames.{law_with_cell_marks, law_with_fewer_chosen}
 use Rattle.far_core.proofs.Marking.{same_world, unmarks_world}
 use Rattle.far_core.proofs.Owed.{Owed, replies}
-use Rattle.far_core.proofs.Put.{put_both, put_same, put_other}
+use Rattle.far_events.proofs.Put.{put_both, put_same, put_other}
 use Rattle.far_core.proofs.Touching.{same_copier, one_cell}
 
 -- ---- the guard

@@ -3,21 +3,20 @@ use Rattle.std.proofs.Common.{inr, Bool, None, Option, Some, ap, cond, false, na
 use Rattle.std.proofs.lemmas.Bool.{cond_both, eq-eqb, eqb-false, eqb-true, false≢true}
 use Rattle.std.specs.Prelude.{IsSome, is_some, not}
 use Rattle.far_core.proofs.Frames.{law_with_owners}
-use Rattle.far_core.proofs.Guards.{open_fact, open_test}
+use Rattle.far_events.proofs.Guards.{open_fact, open_test}
 use Rattle.far_core.proofs.KeepOwner.{closed_word}
 use Rattle.far_core.proofs.Touching.{touched_soiled, one_scope}
-use Rattle.far_core.specs.events.Touch.{LetsGo}
+use Rattle.far_events.specs.events.Touch.{LetsGo}
 use Rattle.far_core.proofs.Owed.{Owed, replies}
 use Rattle.far_core.specs.laws.Worlds.{Caused}
-use Rattle.far_core.specs.events.Step.{change_of}
-use Rattle.far_core.proofs.Put.{put_both, put_other, put_same}
+use Rattle.far_events.specs.events.Step.{change_of, after_close}
+use Rattle.far_events.proofs.Put.{put_both, put_other, put_same}
 use Rattle.far_core.proofs.Worlds.{World-ext, opened_is}
-use Rattle.far_core.specs.state.Law.{Law, held_place}
-use Rattle.far_core.specs.state.State.{State, put}
-use Rattle.far_core.specs.events.Step.{after_close}
+use Rattle.far_events.specs.state.Law.{Law, held_place}
+use Rattle.far_events.specs.state.State.{State, put}
 use Rattle.far_core.specs.world.WorldOf.{world_of}
 use Rattle.far_core.specs.world.Steps.{Closes}
-use Rattle.far_core.specs.declared.event.Event.TheVariants.{Close}
+use Rattle.far_events.specs.declared.event.Event.TheVariants.{Close}
 use Rattle.far_word.specs.Pointer.{read_of}
 use Rattle.far_word.specs.Scope.{scope_of}
 use Rattle.far_word.specs.declared.pointer.Place.{Place}

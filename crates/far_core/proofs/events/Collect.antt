@@ -7,23 +7,24 @@ use Rattle.far_word.specs.declared.job.Job.{Job}
 use Rattle.far_word.specs.declared.job.JobWord.TheVariants.{Empty, Taken, Finished}
 use Rattle.far_word.specs.declared.sizes.TheConstants.{JOBS}
 use Rattle.far_word.specs.Job.{job_of}
-use Rattle.far_core.specs.declared.event.Event.TheVariants.{Collect}
-use Rattle.far_core.specs.declared.event.Reply.{Reply}
-use Rattle.far_core.specs.declared.event.Reply.TheVariants.{Done, Refused, Word}
-use Rattle.far_core.specs.events.Collect.{collected, is_loose}
-use Rattle.far_core.specs.events.Reports.{Reports}
-use Rattle.far_core.specs.events.Step.{change_of, touches}
-use Rattle.far_core.specs.events.Touch.{JobAt, NoPart, Touches}
+use Rattle.far_events.specs.declared.event.Event.TheVariants.{Collect}
+use Rattle.far_events.specs.declared.event.Reply.{Reply}
+use Rattle.far_events.specs.declared.event.Reply.TheVariants.{Done, Refused, Word}
+use Rattle.far_events.specs.events.Collect.{collected, is_loose}
+use Rattle.far_events.specs.events.Reports.{Reports}
+use Rattle.far_events.specs.events.Step.{change_of, touches}
+use Rattle.far_events.specs.events.Touch.{JobAt, NoPart, Touches}
 use Rattle.far_core.specs.laws.Worlds.{Caused}
-use Rattle.far_core.specs.state.Jobs.{is_finished, job_at, job_said}
-use Rattle.far_core.specs.state.Law.{Law}
-use Rattle.far_core.specs.state.State.{State, put}
+use Rattle.far_events.specs.state.Jobs.{is_finished, job_at, job_said}
+use Rattle.far_events.specs.state.Law.{Law}
+use Rattle.far_events.specs.state.State.{State, put}
 use Rattle.far_core.specs.world.Happens.{Happens}
 use Rattle.far_core.specs.world.WorldOf.{world_of}
-use Rattle.far_core.proofs.Guards.{parts}
-use Rattle.far_core.proofs.KeepJobs.{copying_stays, law_with_copying, unworded}
+use Rattle.far_events.proofs.Guards.{parts}
+use Rattle.far_core.proofs.KeepJobs.{copying_stays, law_with_copying}
+use Rattle.far_events.proofs.JobPlaces.{unworded}
 use Rattle.far_core.proofs.Owed.{Owed, replies}
-use Rattle.far_core.proofs.Put.{put_both, put_cases_of, put_other, put_same}
+use Rattle.far_events.proofs.Put.{put_both, put_cases_of, put_other, put_same}
 use Rattle.far_core.proofs.Touching.{one_job, untouched}
 
 module _ (s : State) (law : Law s) (j : ℕ) (loose : is_loose (job_of (s.copying.word j)) ≡ true) where

@@ -1,39 +1,28 @@
 -- What the event Finish owes.
-use Rattle.std.proofs.Common.{◌≡◌, ℕ, ◌<◌, ◌∙◌, Bool, true, false, suc, zero, arith, inl, inr, ap, refl, sym, subst, Option, Some, None}
-use Rattle.std.proofs.lemmas.Bool.{cases_eq, false_from_ne_true, false≢true, true≢false}
+use Rattle.std.proofs.Common.{◌≡◌, ℕ, ◌<◌, ◌∙◌, true, false, inl, inr, ap, refl, sym, subst, Option, Some, None}
+use Rattle.std.proofs.lemmas.Bool.{false≢true, true≢false}
 use Rattle.far_word.specs.declared.job.JobWord.TheVariants.{Taken, Finished}
 use Rattle.far_word.specs.declared.sizes.TheConstants.{JOBS, MOST_COPIERS}
 use Rattle.far_word.specs.Job.{IsJob, job_of, job_word}
 use Rattle.far_word.proofs.JobLaws.{job_back, job_fits, job_says}
-use Rattle.far_core.specs.declared.event.Event.TheVariants.{Finish}
-use Rattle.far_core.specs.declared.event.Task.{Task}
-use Rattle.far_core.specs.events.Finish.{after_finish, finished, job_spot}
-use Rattle.far_core.specs.events.Leaves.{WordBy}
-use Rattle.far_core.specs.events.Step.{change_of}
-use Rattle.far_core.specs.events.Tasks.{AllWritten, HasTask, all_written, task_written}
-use Rattle.far_core.specs.events.Touch.{CopierAt, Touches}
+use Rattle.far_events.specs.declared.event.Event.TheVariants.{Finish}
+use Rattle.far_events.specs.declared.event.Task.{Task}
+use Rattle.far_events.specs.events.Finish.{after_finish, finished, job_spot}
+use Rattle.far_core.specs.laws.Leaves.{WordBy}
+use Rattle.far_events.specs.events.Step.{change_of}
+use Rattle.far_events.specs.events.Tasks.{AllWritten, HasTask, task_written}
+use Rattle.far_events.specs.events.Touch.{CopierAt, Touches}
 use Rattle.far_core.specs.laws.Worlds.{Caused}
-use Rattle.far_core.specs.state.Jobs.{IsGood, is_finished, job_at, job_said, job_words, source, target}
-use Rattle.far_core.specs.state.Law.{Law}
-use Rattle.far_core.specs.state.State.{State}
+use Rattle.far_events.specs.state.Jobs.{IsGood, is_finished, job_at, job_said, job_words, source, target}
+use Rattle.far_events.specs.state.Law.{Law}
+use Rattle.far_events.specs.state.State.{State}
 use Rattle.far_core.specs.world.WorldOf.{world_of}
-use Rattle.far_core.proofs.Guards.{parts}
-use Rattle.far_core.proofs.KeepJobs.{copying_stays, job_low, law_with_copying, reworded_jobs, reworded_aims, reworded_good, task_at}
+use Rattle.far_core.proofs.KeepJobs.{copying_stays, law_with_copying, reworded_jobs, reworded_aims, reworded_good}
+use Rattle.far_events.proofs.JobPlaces.{job_low, task_at}
 use Rattle.far_core.proofs.Owed.{Owed, replies}
-use Rattle.far_core.proofs.Put.{put_cases, put_cases_of, put_other, put_same}
+use Rattle.far_events.proofs.Put.{put_cases, put_cases_of, put_other, put_same}
 use Rattle.far_core.proofs.Touching.{copier_touched, one_job, untouched}
-
--- ---- the guard
-written_below : (written : ℕ → Bool) (n i : ℕ) → all_written written n ≡ true → i < n → written i ≡ true
-written_below written zero i h lt = absurd (omega arith)
-written_below written (suc n) i h lt = elim (cases_eq i n) [
-  | inl e ↦ ap written e ∙ (parts _ _ h).1
-  | inr ne ↦ written_below written n i (parts _ _ h).0 (omega arith)
-]
-
-written_all : (written : ℕ → Bool) (n : ℕ) → AllWritten written n → all_written written n ≡ true
-written_all written zero h = refl
-written_all written (suc n) h = rw (written_all written n (λ i lt. h i (omega arith)), h n (omega arith)) refl
+use Rattle.far_events.proofs.events.Finish.{written_below, written_all}
 
 finish_fact : (s : State) (c : ℕ) (o : Option Task) → s.copying.task c ≡ o → task_written s c o ≡ true → (t : Task) × HasTask s c t × AllWritten (s.copying.written c) (job_words s.word t.job)
 finish_fact s c None e h = absurd (false≢true h)
@@ -126,7 +115,3 @@ module _ (c : ℕ) where
     answers = λ s x. cc;
     causes = replies (λ r. Caused (Finish c) (change_of (Finish c) r)) tt tt (λ n. tt) (λ x. tt) (λ place. tt);
   }
-
--- a word that isn't written shows
-pub unwritten_at : (written : ℕ → Bool) (n i : ℕ) → i < n → written i ≡ false → all_written written n ≡ false
-unwritten_at written n i lt h = false_from_ne_true _ (λ all. false≢true (sym h ∙ written_below written n i all lt))

@@ -1,5 +1,5 @@
 -- What the event Get owes.
-use Rattle.std.proofs.Common.{inl, inr, ◌≡◌, ◌≢◌, ℕ, ◌+◌, ◌*◌, ◌/◌, ◌%◌, ◌<◌, ◌≤◌, ◌∙◌, Bool, true, false, cond, nat_lt, nat_eq, zero, suc, arith, ap, refl, sym, Option, Some, None}
+use Rattle.std.proofs.Common.{inl, inr, ◌≡◌, ◌≢◌, ℕ, ◌+◌, ◌*◌, ◌/◌, ◌%◌, ◌<◌, ◌≤◌, ◌∙◌, Bool, true, false, cond, nat_lt, nat_eq, arith, ap, refl, sym, Option, Some, None}
 use Rattle.std.proofs.lemmas.Bool.{cases_eq, cond_both, eq-eqb, eqb-true, false≢true, true≢false, ne_eqb, false_from_ne_true}
 use Rattle.std.proofs.lemmas.Bool.Decides.{nat_tests}
 use mathlib.Core.Path.{fun_ext}
@@ -17,51 +17,36 @@ use Rattle.far_word.specs.Pointer.{read_of}
 use Rattle.far_word.specs.Sizes.{size_of}
 use Rattle.far_word.proofs.PointerLaws.{read_says}
 use Rattle.far_log.specs.Spans.{pointer_in}
-use Rattle.far_core.specs.declared.event.Event.TheVariants.{Get}
-use Rattle.far_core.specs.declared.event.Kind.TheVariants.{Free, Open, Sealed}
-use Rattle.far_core.specs.declared.event.Reply.{Reply}
-use Rattle.far_core.specs.declared.event.Reply.TheVariants.{Word}
-use Rattle.far_core.specs.events.Get.{is_copied_at, none_copied, IsUncopied, is_live_at, none_live, IsVacant, may_free, MayFree, with_free_log, Frees, FreeReports, after_get, part_of}
-use Rattle.far_core.specs.events.Legal.{Legal}
-use Rattle.far_core.specs.events.Step.{after, change_of, touches}
-use Rattle.far_core.specs.events.Touch.{Touches}
-use Rattle.far_core.specs.events.Leaves.{PartBy}
+use Rattle.far_events.specs.declared.event.Event.TheVariants.{Get}
+use Rattle.far_events.specs.declared.event.Kind.TheVariants.{Free, Open, Sealed}
+use Rattle.far_events.specs.declared.event.Reply.{Reply}
+use Rattle.far_events.specs.declared.event.Reply.TheVariants.{Word}
+use Rattle.far_events.specs.events.Get.{is_copied_at, none_copied, IsUncopied, is_live_at, none_live, IsVacant, may_free, MayFree, with_free_log, Frees, FreeReports, after_get, part_of}
+use Rattle.far_events.specs.events.Legal.{Legal}
+use Rattle.far_events.specs.events.Step.{after, change_of, touches}
+use Rattle.far_events.specs.events.Touch.{Touches}
+use Rattle.far_core.specs.laws.Leaves.{PartBy}
 use Rattle.far_core.specs.laws.Worlds.{Caused}
-use Rattle.far_core.specs.state.Law.{Law, SpanAt}
-use Rattle.far_core.specs.state.Spans.{names_place}
-use Rattle.far_core.specs.state.Jobs.{job_at, job_said}
-use Rattle.far_core.specs.state.State.{Copying, State, put, addr}
+use Rattle.far_events.specs.state.Law.{Law, SpanAt}
+use Rattle.far_events.specs.state.Spans.{names_place}
+use Rattle.far_events.specs.state.Jobs.{job_at, job_said}
+use Rattle.far_events.specs.state.State.{Copying, State, put, addr}
 use Rattle.far_core.specs.world.Happens.{Happens}
 use Rattle.far_core.specs.world.Steps as world
 use Rattle.far_core.specs.world.World.{Object, Group, FarSide}
 use Rattle.far_core.specs.world.WorldOf.{world_of, object_of, is_group}
-use Rattle.far_core.proofs.Bounds.{span_len}
-use Rattle.far_core.proofs.Cells.{live_names}
+use Rattle.far_events.proofs.Bounds.{span_len}
+use Rattle.far_events.proofs.Cells.{live_names}
 use Rattle.far_core.proofs.Frames.{fewer_clear}
-use Rattle.far_core.specs.events.Mark.{is_sealed}
-use Rattle.far_core.proofs.Guards.{parts, sealed_fact}
-use Rattle.far_core.proofs.JobPlaces.{job_bounds}
-use Rattle.far_core.proofs.KeepJobs.{copies_fewer, keeps_jobs, unworded}
+use Rattle.far_events.specs.events.Mark.{is_sealed}
+use Rattle.far_events.proofs.Guards.{parts, sealed_fact}
+use Rattle.far_events.proofs.JobPlaces.{job_bounds, unworded}
+use Rattle.far_core.proofs.KeepJobs.{copies_fewer, keeps_jobs}
 use Rattle.far_core.proofs.Owed.{Owed, replies}
-use Rattle.far_core.proofs.Put.{put_both, put_two, put_same, put_other}
+use Rattle.far_events.proofs.Put.{put_both, put_two, put_same, put_other}
 use Rattle.far_core.proofs.Touching.{same_copier, untouched}
 use Rattle.far_core.proofs.Worlds.{World-ext}
-
--- ---- the guard
-none_below : (s : State) (l n i : ℕ) → none_live s l n ≡ true → i < n → is_live_at s l i ≡ false
-none_below s l zero i h lt = absurd (omega arith)
-none_below s l (suc n) i h lt = elim (cases_eq i n) [
-  | inl e ↦ (let here : is_live_at s l n ≡ false = grind (arith, nat_tests) in ap (is_live_at s l) e ∙ here)
-  | inr ne ↦ none_below s l n i (grind (arith, nat_tests)) (omega arith)
-]
-
--- a live span below n shows
-pub live_at : (s : State) (l n i : ℕ) → i < n → is_live_at s l i ≡ true → none_live s l n ≡ false
-live_at s l n i lt live = false_from_ne_true _ (λ h. false≢true (sym (none_below s l n i h lt) ∙ live))
-
-none_all : (s : State) (l n : ℕ) → ((i : ℕ) → i < n → is_live_at s l i ≡ false) → none_live s l n ≡ true
-none_all s l zero h = refl
-none_all s l (suc n) h = rw (none_all s l n (λ i lt. h i (omega arith)), h n (omega arith)) refl
+use Rattle.far_events.proofs.events.Get.{none_below, none_all, uncopied_below, uncopied_all}
 
 module _ (s : State) (law : Law s) (l : ℕ) where
   -- a pointer that lies in the log has a live span there
@@ -83,22 +68,6 @@ vacant_test s l vacant = none_all s l LOG_WORDS (λ i lt. false_from_ne_true _ (
     let named : names_place (read_of (s.cell (pointer_in (head_of (s.word (l * LOG_WORDS + i)))))) l i ≡ true = grind (arith, nat_tests) in
     let names = live_names (read_of (s.cell (pointer_in (head_of (s.word (l * LOG_WORDS + i)))))) l i named in
     vacant p names.0 names.1 names.2 names.3 names.4 names.5))
-
--- ---- the jobs
-uncopied_below : (k : Copying) (l n j : ℕ) → none_copied k l n ≡ true → j < n → is_copied_at l (job_at k.word j) ≡ false
-uncopied_below k l zero j h lt = absurd (omega arith)
-uncopied_below k l (suc n) j h lt = elim (cases_eq j n) [
-  | inl e ↦ (let here : is_copied_at l (job_at k.word n) ≡ false = grind (arith, nat_tests) in ap (λ i. is_copied_at l (job_at k.word i)) e ∙ here)
-  | inr ne ↦ uncopied_below k l n j (grind (arith, nat_tests)) (omega arith)
-]
-
--- a job there shows
-pub copied_at : (k : Copying) (l n j : ℕ) → j < n → is_copied_at l (job_at k.word j) ≡ true → none_copied k l n ≡ false
-copied_at k l n j lt there = false_from_ne_true _ (λ h. false≢true (sym (uncopied_below k l n j h lt) ∙ there))
-
-uncopied_all : (k : Copying) (l n : ℕ) → ((j : ℕ) → j < n → is_copied_at l (job_at k.word j) ≡ false) → none_copied k l n ≡ true
-uncopied_all k l zero h = refl
-uncopied_all k l (suc n) h = rw (uncopied_all k l n (λ j lt. h j (omega arith)), h n (omega arith)) refl
 
 apart_fact : (l : ℕ) (job : Job) → is_copied_at l (Some job) ≡ false → (job.from.log ≢ l) × (job.to.log ≢ l)
 apart_fact l job h = (λ e. absurd (true≢false (sym (either_is _ _ (inl (eq-eqb job.from.log l e))) ∙ h)), λ e. absurd (true≢false (sym (either_is _ _ (inr (eq-eqb job.to.log l e))) ∙ h))) where

@@ -1,15 +1,14 @@
 -- What the event Load owes.
 use Rattle.std.proofs.Common.{ap, arith, nat_lt, refl, true, ℕ, ◌+◌, ◌<◌, ◌≡◌}
 use Rattle.std.proofs.lemmas.Bool.Decides.{nat_tests}
-use Rattle.far_core.proofs.Guards.{word_fact, word_test}
+use Rattle.far_events.proofs.Guards.{word_fact, word_test}
 use Rattle.far_core.proofs.Touching.{untouched}
 use Rattle.far_core.proofs.Owed.{Owed, replies}
 use Rattle.far_core.specs.laws.Worlds.{Caused}
-use Rattle.far_core.specs.events.Step.{change_of}
+use Rattle.far_events.specs.events.Step.{change_of, data_len, data_word, holds, near_data}
 use Rattle.far_core.proofs.Worlds.{load_reads}
-use Rattle.far_core.specs.state.State.{addr}
-use Rattle.far_core.specs.events.Step.{data_len, data_word, holds, near_data}
-use Rattle.far_core.specs.declared.event.Event.TheVariants.{Load}
+use Rattle.far_events.specs.state.State.{addr}
+use Rattle.far_events.specs.declared.event.Event.TheVariants.{Load}
 use Rattle.far_word.specs.Sizes.{words_for}
 
 -- what the event owes

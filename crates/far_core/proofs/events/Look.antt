@@ -9,16 +9,16 @@ use Rattle.far_word.specs.declared.scope.ScopeWord.TheVariants as scoped
 use Rattle.far_word.specs.declared.sizes.TheConstants.{CELLS}
 use Rattle.far_word.specs.Scope.{scope_of}
 use Rattle.far_word.proofs.ScopeLaws.{scope_says}
-use Rattle.far_core.specs.declared.event.Event.TheVariants.{Look}
-use Rattle.far_core.specs.events.Look.{shows_clear, ShowsClear, looked, Looks}
-use Rattle.far_core.specs.events.Step.{change_of}
+use Rattle.far_events.specs.declared.event.Event.TheVariants.{Look}
+use Rattle.far_events.specs.events.Look.{shows_clear, ShowsClear, looked, Looks}
+use Rattle.far_events.specs.events.Step.{change_of}
 use Rattle.far_core.specs.laws.Worlds.{Caused}
-use Rattle.far_core.specs.state.Law.{Law}
-use Rattle.far_core.specs.state.State.{State}
+use Rattle.far_events.specs.state.Law.{Law}
+use Rattle.far_events.specs.state.State.{State}
 use Rattle.far_core.specs.world.WorldOf.{world_of}
 use Rattle.far_core.proofs.KeepJobs.{copies_fewer}
 use Rattle.far_core.proofs.Owed.{Owed, replies}
-use Rattle.far_core.proofs.Put.{put_both, put_same, put_other}
+use Rattle.far_events.proofs.Put.{put_both, put_same, put_other}
 use Rattle.far_core.proofs.Touching.{same_copier}
 
 or_fact : (a b : Bool) → (a || b) ≡ true → (a ≡ true) ⊎ (b ≡ true)

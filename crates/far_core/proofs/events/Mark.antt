@@ -10,21 +10,22 @@ use Rattle.far_word.specs.declared.sizes.TheConstants.{CELLS}
 use Rattle.far_word.specs.Mark.{position}
 use Rattle.far_word.specs.Pointer.{read_of}
 use Rattle.far_word.proofs.PointerLaws.{with_mark_read, with_mark_fits}
-use Rattle.far_core.specs.declared.event.Event.TheVariants.{Mark}
-use Rattle.far_core.specs.events.Mark.{may_mark, IsSealedNear}
-use Rattle.far_core.specs.state.Law.{Law, HasEvac, held_place, in_use}
-use Rattle.far_core.specs.state.State.{State, put}
-use Rattle.far_core.specs.events.Step.{change_of}
+use Rattle.far_events.specs.declared.event.Event.TheVariants.{Mark}
+use Rattle.far_events.specs.events.Mark.{may_mark, IsSealedNear}
+use Rattle.far_events.specs.state.Law.{Law, HasEvac, held_place, in_use}
+use Rattle.far_events.specs.state.State.{State, put}
+use Rattle.far_events.specs.events.Step.{change_of}
 use Rattle.far_core.specs.world.World.{Object}
 use Rattle.far_core.specs.laws.Worlds.{Caused}
 use Rattle.far_core.specs.world.WorldOf.{world_of, object_of, is_marked}
 use Rattle.far_core.specs.world.Steps as world
-use Rattle.far_core.proofs.Cells.{Remarked, Remarked-map_mark, HasEvac-mark, unused, map_mark, held_place-mark, in_use-mark, object_of-mark}
+use Rattle.far_events.proofs.Cells.{Remarked, Remarked-map_mark, HasEvac-mark, unused, map_mark, held_place-mark, in_use-mark}
+use Rattle.far_core.proofs.Cells.{object_of-mark}
 use Rattle.far_core.proofs.Frames.{law_with_cell_marks}
-use Rattle.far_core.proofs.Guards.{sealed_fact}
+use Rattle.far_events.proofs.Guards.{sealed_fact}
 use Rattle.far_core.proofs.Marking.{marks_world}
 use Rattle.far_core.proofs.Owed.{Owed, replies}
-use Rattle.far_core.proofs.Put.{put_same}
+use Rattle.far_events.proofs.Put.{put_same}
 use Rattle.far_core.proofs.Touching.{touched, one_cell}
 
 abbrev evac : ℕ → ℕ

@@ -1,30 +1,29 @@
 -- What the event Name owes, by the form of the naming.
-use Rattle.std.proofs.Common.{◌≢◌, ◌≡◌, ◌<◌, ◌*◌, ◌^◌, ◌∙◌, ℕ, Bool, true, false, cond, nat_eq, nat_lt, arith, inl, inr, refl, ap, Option, Some, None}
-use Rattle.std.proofs.lemmas.Bool.{cond_both, eqb-false, eqb-true, false≢true}
-use Rattle.std.proofs.lemmas.Bool.Decides.{nat_tests}
-use Rattle.far_word.specs.declared.sizes.TheConstants.{CELLS}
+use Rattle.std.proofs.Common.{◌≢◌, ◌≡◌, ◌<◌, ◌^◌, ℕ, Bool, true, false, cond, nat_eq, inl, inr, refl, Option, Some, None}
+use Rattle.std.proofs.lemmas.Bool.{cond_both, eqb-false, eqb-true}
 use Rattle.far_word.specs.Pointer.{read_of}
-use Rattle.far_core.specs.declared.event.Event.TheVariants.{Name}
-use Rattle.far_core.specs.declared.event.Reply.{Reply}
-use Rattle.far_core.specs.declared.event.Reply.TheVariants.{Done, Refused, Word}
-use Rattle.far_core.specs.declared.naming.Naming.{Naming}
-use Rattle.far_core.specs.declared.naming.Naming.TheVariants.{Places, Retires, Evicts, Stays, Moves, Fetches}
-use Rattle.far_core.specs.events.Legal.{Legal}
-use Rattle.far_core.specs.events.Name.{IsLegalNaming, may_name, after_naming, change_by}
-use Rattle.far_core.specs.events.Naming.{naming_of}
-use Rattle.far_core.specs.events.Step.{change_of, touches}
-use Rattle.far_core.specs.events.Reports.{Reports}
-use Rattle.far_core.specs.events.Touch.{CellAt, BookView, Touches}
+use Rattle.far_events.specs.declared.event.Event.TheVariants.{Name}
+use Rattle.far_events.specs.declared.event.Reply.{Reply}
+use Rattle.far_events.specs.declared.event.Reply.TheVariants.{Done, Refused, Word}
+use Rattle.far_events.specs.declared.naming.Naming.{Naming}
+use Rattle.far_events.specs.declared.naming.Naming.TheVariants.{Places, Retires, Evicts, Stays, Moves, Fetches}
+use Rattle.far_events.specs.events.Legal.{Legal}
+use Rattle.far_events.specs.events.Name.{after_naming, change_by}
+use Rattle.far_events.specs.events.Naming.{naming_of}
+use Rattle.far_events.specs.events.Step.{change_of, touches}
+use Rattle.far_events.specs.events.Reports.{Reports}
+use Rattle.far_events.specs.events.Touch.{CellAt, BookView, Touches}
 use Rattle.far_core.specs.laws.Worlds.{Caused}
-use Rattle.far_core.specs.state.Law.{Law}
-use Rattle.far_core.specs.state.State.{State}
+use Rattle.far_events.specs.state.Law.{Law}
+use Rattle.far_events.specs.state.State.{State}
 use Rattle.far_core.specs.world.Changes.{StepOf}
 use Rattle.far_core.specs.world.Happens.{Happens}
 use Rattle.far_core.specs.world.WorldOf.{world_of}
 use Rattle.far_core.proofs.NamingOwed.{IsMade, NamingOwed}
-use Rattle.far_core.proofs.Namings.{naming_says, naming_only}
+use Rattle.far_events.proofs.Namings.{naming_says, naming_only}
 use Rattle.far_core.proofs.Owed.{Owed, replies}
 use Rattle.far_core.proofs.Touching.{untouched}
+use Rattle.far_events.proofs.NamingTests.{name_fact, name_test}
 use Rattle.far_core.proofs.events.namings.Evicts.{evicts_owed}
 use Rattle.far_core.proofs.events.namings.Fetches.{fetches_owed}
 use Rattle.far_core.proofs.events.namings.Moves.{moves_owed}
@@ -43,14 +42,6 @@ naming_owed p new (Fetches len ds place) = fetches_owed p new len ds place
 module _ (p old new : ℕ) where
   abbrev form : Option Naming
   form = naming_of (read_of old) (read_of new)
-
-  name_fact : (s : State) (o : Option Naming) → naming_of (read_of old) (read_of new) ≡ o → may_name s p new o ≡ true → IsLegalNaming s p old new
-  name_fact s None e h = absurd (false≢true h)
-  name_fact s (Some f) e h = (f, naming_says (read_of old) (read_of new) f e, (naming_owed p new f).fact s h)
-
-  -- the form that is legal is that of the words
-  name_test : (s : State) → IsLegalNaming s p old new → may_name s p new form ≡ true
-  name_test s (f, says, legal) = ap (may_name s p new) (naming_only f _ _ says) ∙ (naming_owed p new f).test s legal
 
   -- the form is made where the cell is the old word
   made : (s : State) (law : Law s) → new < 2 ^ 64 → (h : Legal s (Name p old new)) → s.cell p ≡ old → IsMade s p new h.1.0
@@ -84,8 +75,8 @@ module _ (p old new : ℕ) where
 
   pub name_owed : Owed (Name p old new)
   name_owed = record {
-    fact = λ s law h. (grind (arith, nat_tests), name_fact s form refl (grind (arith, nat_tests)));
-    test = λ s h. let low : p < CELLS * s.mutators = h.0 in let a : nat_lt p (CELLS * s.mutators) ≡ true = grind (arith, nat_tests) in rw (a, name_test s h.1) refl;
+    fact = λ s law h. name_fact s p old new h;
+    test = λ s h. name_test s p old new h;
     keeps = λ s law fits h. cond_both (nat_eq (s.cell p) old) (after_naming s p new form) s Law (λ e. keeps_name s law fits.1 h (eqb-true (s.cell p) old e)) (λ _. law);
     does = λ s law fits h. do_exchange s law fits.1 h (nat_eq (s.cell p) old) refl;
     within = λ s. cond_both (nat_eq (s.cell p) old) (after_naming s p new form) s (Touches s (touches s (Name p old new))) (λ _. touch_name s form) (λ _. untouched s _);

@@ -1,7 +1,7 @@
 -- What the event Offer owes.
-use Rattle.std.proofs.Common.{◌≡◌, ◌≢◌, ℕ, ◌+◌, ◌-◌, ◌*◌, ◌/◌, ◌^◌, ◌<◌, ◌≤◌, ◌∙◌, Bool, true, false, nat_eq, nat_le, nat_lt, arith, inl, inr, ap, refl, subst, sym, Option, Some, None}
-use Rattle.std.specs.Prelude.{◌&&◌, ◌⊎◌, IsSome}
-use Rattle.std.proofs.lemmas.Bool.{eq-eqb, eqb-true, false≢true, true≢false}
+use Rattle.std.proofs.Common.{◌≡◌, ◌≢◌, ℕ, ◌-◌, ◌*◌, ◌/◌, ◌^◌, ◌<◌, ◌≤◌, ◌∙◌, Bool, true, false, nat_lt, arith, inl, inr, ap, refl, subst, sym, Option, Some, None}
+use Rattle.std.specs.Prelude.{◌⊎◌, IsSome}
+use Rattle.std.proofs.lemmas.Bool.{eq-eqb, false≢true, true≢false}
 use Rattle.std.proofs.lemmas.Bool.Decides.{nat_tests}
 use Rattle.std.proofs.lemmas.Nat.{pow_pos}
 use mathlib.Core.Path.{fun_ext}
@@ -11,62 +11,41 @@ use Rattle.far_word.specs.declared.mark.Marks.{Marks}
 use Rattle.far_word.specs.declared.pointer.Place.{Place}
 use Rattle.far_word.specs.declared.pointer.PtrWord.{PtrWord}
 use Rattle.far_word.specs.declared.pointer.PtrWord.TheVariants.{Free, Near, Far}
-use Rattle.far_word.specs.declared.sizes.TheConstants.{CELLS, JOBS, LOG_WORDS}
+use Rattle.far_word.specs.declared.sizes.TheConstants.{CELLS, JOBS}
 use Rattle.far_word.specs.Header.{head_of}
 use Rattle.far_word.specs.Job.{IsJob, job_of, job_word}
 use Rattle.far_word.specs.Pointer.{IsPtr, read_of}
-use Rattle.far_word.specs.Sizes.{size_of, words_for}
+use Rattle.far_word.specs.Sizes.{words_for}
 use Rattle.far_word.proofs.HeaderLaws.{head_back}
 use Rattle.far_word.proofs.JobLaws.{job_back, job_fits}
 use Rattle.far_word.proofs.PointerLaws.{read_says}
 use Rattle.far_log.specs.Spans.{pointer_in}
-use Rattle.far_core.specs.declared.event.Event.TheVariants.{Offer}
-use Rattle.far_core.specs.declared.event.Task.{Task}
-use Rattle.far_core.specs.events.Copies.{EndsPadded}
-use Rattle.far_core.specs.events.NewSpans.{is_new_span, with_begun}
-use Rattle.far_core.specs.events.Offer.{MayOffer, Offers, after_offer, ends_blank, is_clear_near, is_within, may_offer, offered, takes_copy, with_job}
-use Rattle.far_core.specs.events.Legal.{Legal}
-use Rattle.far_core.specs.events.Step.{change_of}
-use Rattle.far_core.specs.events.Touch.{JobAt, BookView, Touches}
+use Rattle.far_events.specs.declared.event.Event.TheVariants.{Offer}
+use Rattle.far_events.specs.declared.event.Task.{Task}
+use Rattle.far_events.specs.events.Copies.{EndsPadded}
+use Rattle.far_events.specs.events.NewSpans.{with_begun}
+use Rattle.far_events.specs.events.Offer.{MayOffer, Offers, after_offer, offered, with_job}
+use Rattle.far_events.specs.events.Legal.{Legal}
+use Rattle.far_events.specs.events.Step.{change_of}
+use Rattle.far_events.specs.events.Touch.{JobAt, BookView, Touches}
 use Rattle.far_core.specs.laws.Worlds.{Caused}
-use Rattle.far_core.specs.state.Jobs.{AimLaw, GoodLaw, IsGood, JobLaw, JobSpans, SameAs, TakenLaw, is_finished, job_at, job_said, near_place}
-use Rattle.far_core.specs.state.Law.{Law, Padded}
-use Rattle.far_core.specs.state.State.{Copying, State, addr, put}
+use Rattle.far_events.specs.state.Jobs.{AimLaw, GoodLaw, IsGood, JobLaw, JobSpans, SameAs, TakenLaw, is_finished, job_at, job_said, near_place}
+use Rattle.far_events.specs.state.Law.{Law, Padded}
+use Rattle.far_events.specs.state.State.{Copying, State, addr, put}
 use Rattle.far_core.specs.world.Steps.{Holds}
 use Rattle.far_core.specs.world.WorldOf.{world_of}
-use Rattle.far_core.proofs.Bounds.{span_len}
-use Rattle.far_core.proofs.Copies.{padded_all}
-use Rattle.far_core.proofs.Guards.{parts}
-use Rattle.far_core.proofs.JobPlaces.{not_target}
-use Rattle.far_core.proofs.KeepJobs.{law_with_copying, unworded}
-use Rattle.far_core.proofs.KeepPlace.{header, law_with_begun, none_here, out}
-use Rattle.far_core.proofs.NewSpans.{at_tail, groups_then, new_span_fact, new_span_test, takes_begun, unsealed}
+use Rattle.far_events.proofs.Bounds.{span_len, header}
+use Rattle.far_events.proofs.Copies.{padded_all}
+use Rattle.far_events.proofs.JobPlaces.{not_target, unworded}
+use Rattle.far_core.proofs.KeepJobs.{law_with_copying}
+use Rattle.far_core.proofs.KeepPlace.{law_with_begun, none_here, out}
+use Rattle.far_events.proofs.NewSpans.{at_tail, unsealed}
+use Rattle.far_core.proofs.NewSpans.{groups_then, takes_begun}
 use Rattle.far_core.proofs.Owed.{Owed, replies}
-use Rattle.far_core.proofs.Put.{put_both, put_cases_of, put_other, put_same}
+use Rattle.far_events.proofs.Put.{put_both, put_cases_of, put_other, put_same}
 use Rattle.far_core.proofs.Touching.{one_job, untouched}
 use Rattle.far_core.proofs.Worlds.{World-ext}
-
--- ---- the guard
-offer_fact : (s : State) (p : ℕ) (to : Place) (o : Option PtrWord) → read_of (s.cell p) ≡ o → may_offer s p to o ≡ true → (len ds : ℕ) × (from : Place) × (m : Marks) × MayOffer s p len ds from to m
-offer_fact s p to None e h = absurd (false≢true h)
-offer_fact s p to (Some Free) e h = absurd (false≢true h)
-offer_fact s p to (Some (Near len ds from m)) e h =
-    let a = parts (is_clear_near s p from m) (takes_copy s p len ds to) h in
-    let b = parts (m.evac && s.round from.log) (s.clear (p / CELLS)) a.0 in
-    let c = parts m.evac (s.round from.log) b.0 in
-    let d = parts (is_within s len to && is_new_span s p len ds to) (ends_blank s len to) a.1 in
-    let f = parts (is_within s len to) (is_new_span s p len ds to) d.0 in
-    let within = f.0 in
-    (len, ds, from, m, record { near = e; marked = c.0; chosen = c.1; seen = b.1; fits = grind (arith, nat_tests); span = new_span_fact s p len ds to f.1; ends = eqb-true _ 0 d.1 })
-offer_fact s p to (Some (Far len ds m)) e h = absurd (false≢true h)
-
-offer_test : (s : State) (p len ds : ℕ) (from to : Place) (m : Marks) → MayOffer s p len ds from to m → may_offer s p to (read_of (s.cell p)) ≡ true
-offer_test s p len ds from to m h =
-    let room : to.at + size_of len ≤ LOG_WORDS = h.fits in
-    let low : to.log < s.logs = h.span.next.0 in
-    let a : nat_lt to.log s.logs ≡ true = grind (arith, nat_tests) in
-    let b : nat_le (to.at + size_of len) LOG_WORDS ≡ true = grind (arith, nat_tests) in
-    rw (h.near, h.marked, h.chosen, h.seen, new_span_test s p len ds to h.span, a, b, h.ends) refl
+use Rattle.far_events.proofs.events.Offer.{job_lies, legal_offer, offer_test}
 
 -- ---- the law
 module _ (s : State) (law : Law s) (j p len ds : ℕ) (from to : Place) (m : Marks) (below : j < JOBS) (cell : p < CELLS * s.mutators) (empty : s.copying.word j ≡ 0) (h : MayOffer s p len ds from to m) where
@@ -87,7 +66,7 @@ module _ (s : State) (law : Law s) (j p len ds : ℕ) (from to : Place) (m : Mar
 
   -- the job lies on the layout, and its word says it
   on_layout : IsJob job
-  on_layout = record { cell = omega (arith, cell, law.shape.few_mutators); from = (omega (arith, ptr), omega (arith, ptr)); to = (omega (arith, h.span.next.0, law.shape.few_logs), omega (arith, h.fits, ptr)) }
+  on_layout = job_lies s law p len ds from to m cell h
 
   reads : job_of w ≡ Some (Offered job)
   reads = job_back (Offered job) on_layout
@@ -256,14 +235,6 @@ module _ (s : State) (law : Law s) (j p len ds : ℕ) (from to : Place) (m : Mar
         takes = record { ends = x.ends; opens = x.opens; seals = x.seals; others = x.others; begins = x.begins; starts = x.starts; round = refl; clear = refl; stored = refl };
       }
 
--- what is offered lies on the layout
-pub offer_layout : (s : State) → Law s → (j p : ℕ) (to : Place) → Legal s (Offer j p to) → (len ds : ℕ) (from : Place) (m : Marks) → read_of (s.cell p) ≡ Some (Near len ds from m) →
-    IsJob (record { pointer = p; from = from; to = to })
-offer_layout s law j p to (low, cell, empty, (n, d, at, k, h)) len ds from m is =
-    let same : Some (Near n d at k) ≡ Some (Near len ds from m) = sym h.near ∙ is in
-    let there : at ≡ from = cc in
-    subst (λ (f : Place). IsJob (record { pointer = p; from = f; to = to })) there (on_layout s law j p n d at to k low cell empty h)
-
 module _ (s : State) (j p : ℕ) (to : Place) where
   touch_offer : (o : Option PtrWord) → Touches s (record { word = Some (JobAt j); part = BookView }) (after_offer s j p to o)
   touch_offer None = untouched s _
@@ -283,11 +254,7 @@ module _ (s : State) (j p : ℕ) (to : Place) where
 module _ (j p : ℕ) (to : Place) where
   pub offer_owed : Owed (Offer j p to)
   offer_owed = record {
-    fact = λ s law h.
-        let a = parts (nat_lt j JOBS && nat_lt p (CELLS * s.mutators) && nat_eq (s.copying.word j) 0) (may_offer s p to (read_of (s.cell p))) h in
-        let b = parts (nat_lt j JOBS && nat_lt p (CELLS * s.mutators)) (nat_eq (s.copying.word j) 0) a.0 in
-        let c = parts (nat_lt j JOBS) (nat_lt p (CELLS * s.mutators)) b.0 in
-        (grind (arith, nat_tests), grind (arith, nat_tests), eqb-true _ 0 b.1, offer_fact s p to (read_of (s.cell p)) refl a.1);
+    fact = λ s law h. legal_offer s j p to h;
     test = λ s h.
         let low : j < JOBS = h.0 in
         let cell : p < CELLS * s.mutators = h.1 in

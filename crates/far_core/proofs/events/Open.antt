@@ -4,22 +4,21 @@ use Rattle.std.proofs.lemmas.Bool.{false≢true, ne_eqb}
 use Rattle.std.proofs.lemmas.Bool.Decides.{nat_tests}
 use Rattle.std.specs.Prelude.{IsSome, not}
 use Rattle.far_core.proofs.Frames.{law_with_owners}
-use Rattle.far_core.proofs.Guards.{closed_fact, closed_test}
+use Rattle.far_events.proofs.Guards.{closed_fact, closed_test}
 use Rattle.far_core.proofs.Touching.{touched, one_scope}
 use Rattle.far_core.proofs.Owed.{Owed, replies}
 use Rattle.far_core.specs.laws.Worlds.{Caused}
-use Rattle.far_core.specs.events.Step.{change_of}
-use Rattle.far_core.proofs.Put.{put_both, put_other, put_same}
+use Rattle.far_events.specs.events.Step.{change_of, scope_word_of}
+use Rattle.far_events.proofs.Put.{put_both, put_other, put_same}
 use Rattle.far_core.proofs.Worlds.{World-ext, closed_is}
 use Rattle.far_core.specs.world.Happens.{Happens}
-use Rattle.far_core.specs.state.Law.{Law}
-use Rattle.far_core.specs.state.State.{State, put}
-use Rattle.far_core.specs.events.Step.{scope_word_of}
-use Rattle.far_core.specs.events.Reports.{Reports}
+use Rattle.far_events.specs.state.Law.{Law}
+use Rattle.far_events.specs.state.State.{State, put}
+use Rattle.far_events.specs.events.Reports.{Reports}
 use Rattle.far_core.specs.world.WorldOf.{world_of}
 use Rattle.far_core.specs.world.Steps.{Opens}
-use Rattle.far_core.specs.declared.event.Event.TheVariants.{Open}
-use Rattle.far_core.specs.declared.event.Reply.TheVariants.{Done}
+use Rattle.far_events.specs.declared.event.Event.TheVariants.{Open}
+use Rattle.far_events.specs.declared.event.Reply.TheVariants.{Done}
 use Rattle.far_word.specs.Scope.{scope_of}
 use Rattle.far_word.specs.declared.sizes.TheConstants.{CELLS, EPOCH_END}
 use mathlib.Core.Path.{fun_ext}

@@ -2,8 +2,8 @@
 use Rattle.std.proofs.Common.{◌≡◌, ℕ, ◌<◌, true, nat_lt, arith, refl}
 use Rattle.std.proofs.lemmas.Bool.Decides.{nat_tests}
 use Rattle.far_word.specs.declared.sizes.TheConstants.{JOBS, MOST_COPIERS}
-use Rattle.far_core.specs.declared.event.Event.TheVariants.{PeekJob}
-use Rattle.far_core.specs.events.Step.{change_of}
+use Rattle.far_events.specs.declared.event.Event.TheVariants.{PeekJob}
+use Rattle.far_events.specs.events.Step.{change_of}
 use Rattle.far_core.specs.laws.Worlds.{Caused}
 use Rattle.far_core.proofs.Owed.{Owed, replies}
 use Rattle.far_core.proofs.Touching.{untouched}

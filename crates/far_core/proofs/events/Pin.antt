@@ -3,27 +3,27 @@ use Rattle.std.proofs.Common.{inl, Bool, None, Option, Some, ap, arith, bit_or, 
 use Rattle.std.proofs.lemmas.Bool.{eq-eqb, false≢true, false_from_ne_true}
 use Rattle.std.proofs.lemmas.Bool.Decides.{nat_tests}
 use Rattle.std.specs.Prelude.{IsSome, is_some, ◌||◌}
-use Rattle.far_core.proofs.Cells.{held_place-mark, object_of-mark, held_place-place_to_view, read_hot, map_mark}
+use Rattle.far_events.proofs.Cells.{held_place-mark, held_place-place_to_view, read_hot, map_mark}
+use Rattle.far_core.proofs.Cells.{object_of-mark}
 use Rattle.far_core.proofs.Frames.{law_with_held}
-use Rattle.far_core.proofs.Guards.{none_from, open_fact, open_test}
+use Rattle.far_events.proofs.Guards.{none_from, open_fact, open_test}
 use Rattle.far_core.proofs.KeepOwner.{at_cell, hot_cell, hot_read, keeps_hot}
 use Rattle.far_core.proofs.Touching.{by_owner, touched, one_cell}
-use Rattle.far_core.specs.events.Touch.{CellAt, Rests, Touches}
+use Rattle.far_events.specs.events.Touch.{CellAt, Rests, Touches}
 use Rattle.far_core.proofs.Owed.{Owed, replies}
 use Rattle.far_core.specs.laws.Worlds.{Caused}
-use Rattle.far_core.specs.events.Step.{change_of}
-use Rattle.far_core.proofs.Put.{put_both, put_other, put_same}
+use Rattle.far_events.specs.events.Step.{change_of, with_hold, pin_answer, after_pin, place_to_view}
+use Rattle.far_events.proofs.Put.{put_both, put_other, put_same}
 use Rattle.far_core.proofs.Worlds.{World-ext, opened_is}
 use Rattle.far_core.specs.world.Happens.{Happens}
-use Rattle.far_core.specs.state.Law.{Law, held_place}
-use Rattle.far_core.specs.state.State.{State, addr, put}
-use Rattle.far_core.specs.events.Step.{with_hold, pin_answer, after_pin, place_to_view}
-use Rattle.far_core.specs.events.Reports.{SetsHot, Reports}
+use Rattle.far_events.specs.state.Law.{Law, held_place}
+use Rattle.far_events.specs.state.State.{State, addr, put}
+use Rattle.far_events.specs.events.Reports.{SetsHot, Reports}
 use Rattle.far_core.specs.world.World.{Group, Object, World}
 use Rattle.far_core.specs.world.WorldOf.{is_marked, object_of, world_of}
 use Rattle.far_core.specs.world.Steps.{Views}
-use Rattle.far_core.specs.declared.event.Event.TheVariants.{Pin}
-use Rattle.far_core.specs.declared.event.Reply.TheVariants.{Refused}
+use Rattle.far_events.specs.declared.event.Event.TheVariants.{Pin}
+use Rattle.far_events.specs.declared.event.Reply.TheVariants.{Refused}
 use Rattle.far_word.specs.Bytes.{bytes_of}
 use Rattle.far_word.specs.Mark.{position}
 use Rattle.far_word.specs.Pointer.{read_of}

@@ -2,23 +2,22 @@
 use Rattle.std.proofs.Common.{◌≢◌, inl, inr, arith, nat_lt, refl, sym, true, ℕ, ◌*◌, ◌+◌, ◌<◌, ◌^◌, ◌∙◌, ◌≡◌, ◌≤◌}
 use Rattle.std.proofs.lemmas.Bool.{false≢true}
 use Rattle.std.proofs.lemmas.Bool.Decides.{nat_tests}
-use Rattle.far_core.proofs.Bounds.{span_len}
+use Rattle.far_events.proofs.Bounds.{span_len}
 use Rattle.far_core.proofs.KeepWords.{data_kept, head_kept, keeps_words, same_kept}
 use Rattle.far_core.proofs.Touching.{touched, one_word}
 use Rattle.far_core.proofs.Owed.{Owed, replies}
 use Rattle.far_core.specs.laws.Worlds.{Caused}
-use Rattle.far_core.specs.events.Step.{change_of}
-use Rattle.far_core.proofs.Put.{put_both, put_same}
+use Rattle.far_events.specs.events.Step.{change_of, is_past}
+use Rattle.far_events.proofs.Put.{put_both, put_same}
 use Rattle.far_core.proofs.Worlds.{World-ext, object_same}
-use Rattle.far_core.specs.state.Law.{Law, head_len}
-use Rattle.far_core.specs.state.State.{State, addr, put}
-use Rattle.far_core.specs.events.Step.{is_past}
+use Rattle.far_events.specs.state.Law.{Law, head_len}
+use Rattle.far_events.specs.state.State.{State, addr, put}
 use Rattle.far_core.specs.world.WorldOf.{world_of}
-use Rattle.far_core.specs.declared.event.Event.TheVariants.{Put}
-use Rattle.far_core.specs.declared.event.Kind.{Kind}
+use Rattle.far_events.specs.declared.event.Event.TheVariants.{Put}
+use Rattle.far_events.specs.declared.event.Kind.{Kind}
 use Rattle.far_word.specs.declared.sizes.TheConstants.{LOG_WORDS}
 use mathlib.Core.Path.{fun_ext}
-use Rattle.far_core.specs.declared.event.Kind.TheVariants as kinds
+use Rattle.far_events.specs.declared.event.Kind.TheVariants as kinds
 
 past_fact : (k : Kind) (at tail : ℕ) → is_past k at tail ≡ true → (k ≢ kinds.Sealed) × (tail ≤ at)
 past_fact kinds.Free at tail h = (λ e. cc, grind (arith, nat_tests))

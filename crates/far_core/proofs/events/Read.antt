@@ -1,25 +1,22 @@
 -- What the event Read owes.
-use Rattle.std.proofs.Common.{◌≡◌, ℕ, ◌-◌, ◌*◌, ◌^◌, ◌<◌, ◌∙◌, true, arith, inl, inr, ap, refl, sym, subst, Option, Some, None}
-use Rattle.std.proofs.lemmas.Bool.{false≢true}
+use Rattle.std.proofs.Common.{◌≡◌, ℕ, ◌-◌, ◌*◌, ◌^◌, ◌<◌, ◌∙◌, arith, inl, inr, ap, refl, sym, subst, Option, Some}
 use Rattle.std.proofs.lemmas.Bool.Decides.{nat_tests}
 use Rattle.far_log.specs.Spans.{head_len}
-use Rattle.far_core.specs.declared.event.Event.TheVariants.{Read}
-use Rattle.far_core.specs.declared.event.Task.{Task}
-use Rattle.far_core.specs.events.Read.{after_read}
-use Rattle.far_core.specs.events.Step.{change_of}
-use Rattle.far_core.specs.events.Tasks.{HasTask, is_task_word}
+use Rattle.far_events.specs.declared.event.Event.TheVariants.{Read}
+use Rattle.far_events.specs.declared.event.Task.{Task}
+use Rattle.far_events.specs.events.Read.{after_read}
+use Rattle.far_events.specs.events.Step.{change_of}
+use Rattle.far_events.specs.events.Tasks.{HasTask}
 use Rattle.far_core.specs.laws.Worlds.{Caused}
-use Rattle.far_core.specs.state.Jobs.{job_words, source}
-use Rattle.far_core.specs.state.Law.{Law}
-use Rattle.far_core.specs.state.State.{State, addr, put}
-use Rattle.far_core.proofs.KeepJobs.{copying_stays, law_with_copying, task_at}
+use Rattle.far_events.specs.state.Jobs.{job_words, source}
+use Rattle.far_events.specs.state.Law.{Law}
+use Rattle.far_events.specs.state.State.{State, addr, put}
+use Rattle.far_core.proofs.KeepJobs.{copying_stays, law_with_copying}
+use Rattle.far_events.proofs.JobPlaces.{task_at}
 use Rattle.far_core.proofs.Owed.{Owed, replies}
-use Rattle.far_core.proofs.Put.{put_cases, put_cases_of, put_other, put_same}
+use Rattle.far_events.proofs.Put.{put_cases, put_cases_of, put_other, put_same}
 use Rattle.far_core.proofs.Touching.{copier_touched}
-
-read_fact : (s : State) (c i : ℕ) (o : Option Task) → s.copying.task c ≡ o → is_task_word s o i ≡ true → (t : Task) × HasTask s c t × (i < job_words s.word t.job)
-read_fact s c i None e h = absurd (false≢true h)
-read_fact s c i (Some t) e h = (t, e, grind (arith, nat_tests))
+use Rattle.far_events.proofs.CopierCalls.{read_fact}
 
 module _ (s : State) (law : Law s) (c i : ℕ) (t : Task) (has : HasTask s c t) (low : i < job_words s.word t.job) where
   abbrev now : ℕ → ℕ → Option ℕ

@@ -1,17 +1,17 @@
 -- What the event ReadEpoch owes.
 use Rattle.std.proofs.Common.{Option, Some, ap, arith, refl, sym, ℕ, ◌≡◌, ◌≤◌, ◌<◌}
 use Rattle.far_core.proofs.Frames.{law_with_remembered}
-use Rattle.far_core.proofs.Guards.{closed_fact, closed_test}
+use Rattle.far_events.proofs.Guards.{closed_fact, closed_test}
 use Rattle.far_core.proofs.Touching.{touched}
-use Rattle.far_core.specs.events.Touch.{Remembers}
+use Rattle.far_events.specs.events.Touch.{Remembers}
 use Rattle.far_core.proofs.Owed.{Owed, replies}
 use Rattle.far_core.specs.laws.Worlds.{Caused}
-use Rattle.far_core.specs.events.Step.{change_of}
-use Rattle.far_core.proofs.Put.{put_both, put_other, put_same}
-use Rattle.far_core.specs.state.Law.{Law}
-use Rattle.far_core.specs.state.State.{State, put}
+use Rattle.far_events.specs.events.Step.{change_of}
+use Rattle.far_events.proofs.Put.{put_both, put_other, put_same}
+use Rattle.far_events.specs.state.Law.{Law}
+use Rattle.far_events.specs.state.State.{State, put}
 use Rattle.far_core.specs.world.WorldOf.{world_of}
-use Rattle.far_core.specs.declared.event.Event.TheVariants.{ReadEpoch}
+use Rattle.far_events.specs.declared.event.Event.TheVariants.{ReadEpoch}
 
 pub keeps_read_epoch : (s : State) (m : ℕ) → Law s → m < s.mutators → Law record s { remembered = put s.remembered m (Some s.epoch) }
 keeps_read_epoch s m law own = law_with_remembered s (put s.remembered m (Some s.epoch)) law (λ k e h.

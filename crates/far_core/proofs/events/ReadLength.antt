@@ -3,17 +3,17 @@ use Rattle.std.proofs.Common.{◌≡◌, ℕ, ◌∙◌, true, inl, inr, ap, ref
 use Rattle.std.specs.Prelude.{is_some}
 use Rattle.std.proofs.lemmas.Bool.{false≢true}
 use Rattle.far_log.specs.Spans.{head_len}
-use Rattle.far_core.specs.declared.event.Event.TheVariants.{ReadLength}
-use Rattle.far_core.specs.declared.event.Task.{Task}
-use Rattle.far_core.specs.events.ReadLength.{after_length}
-use Rattle.far_core.specs.events.Step.{change_of}
-use Rattle.far_core.specs.events.Tasks.{HasTask}
+use Rattle.far_events.specs.declared.event.Event.TheVariants.{ReadLength}
+use Rattle.far_events.specs.declared.event.Task.{Task}
+use Rattle.far_events.specs.events.ReadLength.{after_length}
+use Rattle.far_events.specs.events.Step.{change_of}
+use Rattle.far_events.specs.events.Tasks.{HasTask}
 use Rattle.far_core.specs.laws.Worlds.{Caused}
-use Rattle.far_core.specs.state.Law.{Law}
-use Rattle.far_core.specs.state.State.{State, addr}
+use Rattle.far_events.specs.state.Law.{Law}
+use Rattle.far_events.specs.state.State.{State, addr}
 use Rattle.far_core.proofs.KeepJobs.{copying_stays, law_with_copying}
 use Rattle.far_core.proofs.Owed.{Owed, replies}
-use Rattle.far_core.proofs.Put.{put_cases, put_other, put_same}
+use Rattle.far_events.proofs.Put.{put_cases, put_other, put_same}
 use Rattle.far_core.proofs.Touching.{copier_touched}
 
 pub task_fact : (s : State) (c : ℕ) (o : Option Task) → s.copying.task c ≡ o → is_some o ≡ true → (t : Task) × HasTask s c t

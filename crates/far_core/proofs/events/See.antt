@@ -1,8 +1,8 @@
 -- What the event See owes.
 use Rattle.std.proofs.Common.{ℕ, arith, refl}
 use Rattle.std.proofs.lemmas.Bool.Decides.{nat_tests}
-use Rattle.far_core.specs.declared.event.Event.TheVariants.{See}
-use Rattle.far_core.specs.events.Step.{change_of}
+use Rattle.far_events.specs.declared.event.Event.TheVariants.{See}
+use Rattle.far_events.specs.events.Step.{change_of}
 use Rattle.far_core.specs.laws.Worlds.{Caused}
 use Rattle.far_core.proofs.Owed.{Owed, replies}
 use Rattle.far_core.proofs.Touching.{untouched}

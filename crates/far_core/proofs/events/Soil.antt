@@ -10,20 +10,21 @@ use Rattle.far_word.specs.declared.pointer.PtrWord.TheVariants.{Free, Near, Far}
 use Rattle.far_word.specs.Mark.{position}
 use Rattle.far_word.specs.Pointer.{read_of}
 use Rattle.far_word.proofs.PointerLaws.{with_mark_read, with_mark_fits}
-use Rattle.far_core.specs.declared.event.Event.TheVariants.{Soil}
-use Rattle.far_core.specs.events.Soil.{after_soil}
-use Rattle.far_core.specs.events.Step.{change_of}
-use Rattle.far_core.specs.events.Touch.{Soils}
+use Rattle.far_events.specs.declared.event.Event.TheVariants.{Soil}
+use Rattle.far_events.specs.events.Soil.{after_soil}
+use Rattle.far_events.specs.events.Step.{change_of}
+use Rattle.far_events.specs.events.Touch.{Soils}
 use Rattle.far_core.specs.laws.Worlds.{Caused}
-use Rattle.far_core.specs.state.Law.{Law, HasEvac, held_place, in_use, is_dirty}
-use Rattle.far_core.specs.state.State.{State, put}
+use Rattle.far_events.specs.state.Law.{Law, HasEvac, held_place, in_use, is_dirty}
+use Rattle.far_events.specs.state.State.{State, put}
 use Rattle.far_core.specs.world.WorldOf.{world_of, is_marked, object_of}
-use Rattle.far_core.proofs.Bounds.{some_of}
-use Rattle.far_core.proofs.Cells.{Remarked, Remarked-map_mark, HasEvac-mark, map_mark, held_place-mark, in_use-mark, object_of-mark}
+use Rattle.far_events.proofs.Bounds.{some_of}
+use Rattle.far_events.proofs.Cells.{Remarked, Remarked-map_mark, HasEvac-mark, map_mark, held_place-mark, in_use-mark, in_use_nonzero}
+use Rattle.far_core.proofs.Cells.{object_of-mark}
 use Rattle.far_core.proofs.Frames.{law_with_cell_marks, law_with_owners}
-use Rattle.far_core.proofs.Marking.{in_use_nonzero, same_world}
+use Rattle.far_core.proofs.Marking.{same_world}
 use Rattle.far_core.proofs.Owed.{Owed, replies}
-use Rattle.far_core.proofs.Put.{put_both, put_same, put_other}
+use Rattle.far_events.proofs.Put.{put_both, put_same, put_other}
 use Rattle.far_core.proofs.Touching.{by_owner, one_cell, touched_soiled}
 
 abbrev pub soiled_word : ℕ → ℕ

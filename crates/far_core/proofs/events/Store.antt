@@ -1,23 +1,22 @@
 -- What the event Store owes.
 use Rattle.std.proofs.Common.{inl, Some, ap, arith, nat_lt, refl, subst, sym, true, ℕ, ◌*◌, ◌+◌, ◌-◌, ◌/◌, ◌<◌, ◌^◌, ◌∙◌, ◌≡◌, ◌≢◌, false}
-use Rattle.far_core.proofs.Put.{put_same}
+use Rattle.far_events.proofs.Put.{put_same}
 use Rattle.std.proofs.lemmas.Bool.{true≢false, false≢true}
 use Rattle.std.proofs.lemmas.Bool.Decides.{nat_tests}
-use Rattle.far_core.proofs.Bounds.{one_name, span_len}
-use Rattle.far_core.proofs.Guards.{word_fact, word_test}
+use Rattle.far_events.proofs.Bounds.{one_name, span_len}
+use Rattle.far_events.proofs.Guards.{word_fact, word_test}
 use Rattle.far_core.proofs.KeepWords.{data_stays, head_stays, keeps_store}
-use Rattle.far_core.proofs.JobPlaces.{not_source, not_target}
+use Rattle.far_events.proofs.JobPlaces.{not_source, not_target}
 use Rattle.far_core.proofs.KeepJobs.{keeps_same, task_unnamed}
 use Rattle.far_core.proofs.Touching.{touched, one_word}
 use Rattle.far_core.proofs.Owed.{Owed, replies}
 use Rattle.far_core.specs.laws.Worlds.{Caused}
-use Rattle.far_core.specs.events.Step.{change_of}
+use Rattle.far_events.specs.events.Step.{change_of, data_len, data_word, holds, keeps_padding, near_data}
 use Rattle.far_core.proofs.Worlds.{store_writes}
-use Rattle.far_core.specs.state.Law.{Heads, Law, head_len, is_dirty}
-use Rattle.far_core.specs.events.Legal.{HoldsWord}
-use Rattle.far_core.specs.state.State.{State, addr, put}
-use Rattle.far_core.specs.events.Step.{data_len, data_word, holds, keeps_padding, near_data}
-use Rattle.far_core.specs.declared.event.Event.TheVariants.{Store}
+use Rattle.far_events.specs.state.Law.{Heads, Law, head_len, is_dirty}
+use Rattle.far_events.specs.events.Legal.{HoldsWord}
+use Rattle.far_events.specs.state.State.{State, addr, put}
+use Rattle.far_events.specs.declared.event.Event.TheVariants.{Store}
 use Rattle.far_word.proofs.PointerLaws.{read_says}
 use Rattle.far_word.specs.Pointer.{read_of}
 use Rattle.far_word.specs.Sizes.{words_for}

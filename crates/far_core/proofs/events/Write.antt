@@ -11,23 +11,23 @@ use Rattle.far_word.specs.declared.pointer.PtrWord.TheVariants.{Near}
 use Rattle.far_word.specs.Job.{job_of}
 use Rattle.far_word.specs.Pointer.{read_of}
 use Rattle.far_word.specs.Sizes.{words_for}
-use Rattle.far_core.specs.declared.event.Event.TheVariants.{Write}
-use Rattle.far_core.specs.declared.event.Task.{Task}
-use Rattle.far_core.specs.events.Step.{change_of}
-use Rattle.far_core.specs.events.Tasks.{HasTask}
-use Rattle.far_core.specs.events.Write.{after_write}
+use Rattle.far_events.specs.declared.event.Event.TheVariants.{Write}
+use Rattle.far_events.specs.declared.event.Task.{Task}
+use Rattle.far_events.specs.events.Step.{change_of}
+use Rattle.far_events.specs.events.Tasks.{HasTask}
+use Rattle.far_events.specs.events.Write.{after_write}
 use Rattle.far_core.specs.laws.Worlds.{Caused}
-use Rattle.far_core.specs.state.Jobs.{IsGood, SameAs, job_at, job_words, source, target}
-use Rattle.far_core.specs.state.Law.{Law, head_len}
-use Rattle.far_core.specs.state.State.{State, addr, put}
+use Rattle.far_events.specs.state.Jobs.{IsGood, SameAs, job_at, job_words, source, target}
+use Rattle.far_events.specs.state.Law.{Law, head_len}
+use Rattle.far_events.specs.state.State.{State, addr, put}
 use Rattle.far_core.specs.world.WorldOf.{world_of}
-use Rattle.far_core.proofs.Bounds.{span_len}
-use Rattle.far_core.proofs.Guards.{parts}
-use Rattle.far_core.proofs.JobPlaces.{job_bounds, not_target, same_place}
-use Rattle.far_core.proofs.KeepJobs.{law_with_copying, task_at, task_unnamed}
+use Rattle.far_events.proofs.Bounds.{span_len}
+use Rattle.far_events.proofs.Guards.{parts}
+use Rattle.far_events.proofs.JobPlaces.{job_bounds, not_target, same_place, task_at}
+use Rattle.far_core.proofs.KeepJobs.{law_with_copying, task_unnamed}
 use Rattle.far_core.proofs.KeepWords.{data_stays, head_stays, keeps_store}
 use Rattle.far_core.proofs.Owed.{Owed, replies}
-use Rattle.far_core.proofs.Put.{put_cases, put_cases_of, put_other, put_same}
+use Rattle.far_events.proofs.Put.{put_cases, put_cases_of, put_other, put_same}
 use Rattle.far_core.proofs.Touching.{copier_touched, one_word}
 use Rattle.far_core.proofs.Worlds.{World-ext, object_same}
 use Rattle.far_core.proofs.events.ReadLength.{task_fact}

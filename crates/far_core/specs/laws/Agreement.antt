@@ -5,9 +5,9 @@ use Rattle.far_word.specs.declared.pointer.Place.{Place}
 use Rattle.far_word.specs.declared.pointer.PtrWord.TheVariants.{Near, Far}
 use Rattle.far_word.specs.declared.sizes.TheConstants.{CELLS}
 use Rattle.far_word.specs.Pointer.{read_of}
-use Rattle.far_core.specs.declared.event.Kind.TheVariants.{Free}
-use Rattle.far_core.specs.state.Law.{in_use}
-use Rattle.far_core.specs.state.State.{State, addr}
+use Rattle.far_events.specs.declared.event.Kind.TheVariants.{Free}
+use Rattle.far_events.specs.state.Law.{in_use}
+use Rattle.far_events.specs.state.State.{State, addr}
 use Rattle.far_core.specs.world.World.{World, Object, Group, FarSide}
 use Rattle.far_core.specs.world.WorldOf.{world_of}
 

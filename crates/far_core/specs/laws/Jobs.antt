@@ -4,10 +4,10 @@ use Rattle.far_word.specs.declared.job.Job.{Job}
 use Rattle.far_word.specs.declared.job.JobWord.TheVariants.{Taken, Finished}
 use Rattle.far_word.specs.Job.{job_of}
 use Rattle.far_word.specs.Pointer.{read_of}
-use Rattle.far_core.specs.declared.event.Kind.TheVariants.{Free}
-use Rattle.far_core.specs.declared.event.Task.{Task}
-use Rattle.far_core.specs.state.Jobs.{job_at, job_words, near_place, source, target}
-use Rattle.far_core.specs.state.State.{State}
+use Rattle.far_events.specs.declared.event.Kind.TheVariants.{Free}
+use Rattle.far_events.specs.declared.event.Task.{Task}
+use Rattle.far_events.specs.state.Jobs.{job_at, job_words, near_place, source, target}
+use Rattle.far_events.specs.state.State.{State}
 
 -- no log that a job reads or writes is free, and no two jobs write at one place. No pointer is named to a job's target before the book has
 -- written so down of the job. Until then both places of a finished job have the same words, as long as the round of its offer lasts and

@@ -8,8 +8,8 @@ use Rattle.far_word.specs.Pointer.{read_of}
 use Rattle.far_word.specs.Sizes.{bytes_taken}
 use Rattle.far_log.specs.declared.span.Span.{Span}
 use Rattle.far_core.specs.laws.Observed.{live_bytes, dead_bytes}
-use Rattle.far_core.specs.state.Spans.{spans_of, is_live}
-use Rattle.far_core.specs.state.State.{State}
+use Rattle.far_events.specs.state.Spans.{spans_of, is_live}
+use Rattle.far_events.specs.state.State.{State}
 
 -- a place in a log
 abbrev pub place_in : ℕ → ℕ → Place

@@ -1,9 +1,9 @@
 -- What a naming's new word has of the old one, by the bits of both.
 use Rattle.std.specs.Prelude.{◌≡◌, ◌⊎◌, ℕ, ◌^◌, ◌<◌}
 use Rattle.far_word.specs.Mark.{field}
-use Rattle.far_core.specs.declared.event.Event.TheVariants.{Name}
-use Rattle.far_core.specs.events.Legal.{Legal}
-use Rattle.far_core.specs.state.State.{State}
+use Rattle.far_events.specs.declared.event.Event.TheVariants.{Name}
+use Rattle.far_events.specs.events.Legal.{Legal}
+use Rattle.far_events.specs.state.State.{State}
 
 -- DROP is bit 59, the four marks are the bits from 59 on; the length is the lowest 16 bits, the data structure the 8 behind them. The new word is
 -- 0 where the old one has DROP. Else it has none of these marks, not HOT either, and the old word was 0, or both have one length and one data structure

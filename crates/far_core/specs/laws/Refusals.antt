@@ -13,15 +13,15 @@ use Rattle.far_word.specs.Mark.{field}
 use Rattle.far_word.specs.Pointer.{read_of}
 use Rattle.far_word.specs.Sizes.{size_of}
 use Rattle.far_log.specs.Spans.{head_len}
-use Rattle.far_core.specs.declared.event.Event.{Event}
-use Rattle.far_core.specs.declared.event.Event.TheVariants as event
-use Rattle.far_core.specs.declared.event.Kind.TheVariants.{Free, Open, Sealed}
-use Rattle.far_core.specs.declared.event.Reply.TheVariants.{Refused}
-use Rattle.far_core.specs.declared.event.Task.{Task}
-use Rattle.far_core.specs.events.Quiet.{IsQuiet}
-use Rattle.far_core.specs.events.Step.{step_of}
-use Rattle.far_core.specs.state.Jobs.{job_at}
-use Rattle.far_core.specs.state.State.{State, addr}
+use Rattle.far_events.specs.declared.event.Event.{Event}
+use Rattle.far_events.specs.declared.event.Event.TheVariants as event
+use Rattle.far_events.specs.declared.event.Kind.TheVariants.{Free, Open, Sealed}
+use Rattle.far_events.specs.declared.event.Reply.TheVariants.{Refused}
+use Rattle.far_events.specs.declared.event.Task.{Task}
+use Rattle.far_events.specs.events.Quiet.{IsQuiet}
+use Rattle.far_events.specs.events.Step.{step_of}
+use Rattle.far_events.specs.state.Jobs.{job_at}
+use Rattle.far_events.specs.state.State.{State, addr}
 
 -- the event is answered Refused, and nothing changes
 abbrev pub IsRefused : State → Event → Type 0

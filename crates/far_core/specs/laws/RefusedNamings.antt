@@ -7,11 +7,11 @@ use Rattle.far_word.specs.declared.sizes.TheConstants.{CELLS}
 use Rattle.far_word.specs.Header.{head_word}
 use Rattle.far_word.specs.Mark.{field}
 use Rattle.far_word.specs.Pointer.{read_of}
-use Rattle.far_core.specs.declared.event.Event.TheVariants.{Name}
-use Rattle.far_core.specs.declared.event.Kind.TheVariants.{Free, Open, Sealed}
-use Rattle.far_core.specs.events.Copied.{WasCopied}
+use Rattle.far_events.specs.declared.event.Event.TheVariants.{Name}
+use Rattle.far_events.specs.declared.event.Kind.TheVariants.{Free, Open, Sealed}
+use Rattle.far_events.specs.events.Copied.{WasCopied}
 use Rattle.far_core.specs.laws.Refusals.{IsRefused}
-use Rattle.far_core.specs.state.State.{State, addr}
+use Rattle.far_events.specs.state.State.{State, addr}
 
 -- by its two words: past the last pointer; a word off the layout; a new word with a mark but DIRTY, with another length or data structure; 0 for what
 -- has no DROP (bit 59), and any other word for what has it; far where nothing is, where it is far already, or without EVAC; near without DIRTY where

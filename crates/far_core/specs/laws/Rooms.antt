@@ -2,10 +2,10 @@
 use Rattle.std.specs.Prelude.{◌≡◌, ◌≢◌, ℕ, ◌+◌, ◌<◌, ◌≤◌, Bool, true, false, Option, Some, None}
 use Rattle.far_word.specs.declared.pointer.Place.{Place}
 use Rattle.far_word.specs.declared.sizes.TheConstants.{LOG_WORDS}
-use Rattle.far_core.specs.declared.event.Kind.TheVariants.{Free}
-use Rattle.far_core.specs.events.Legal.{IsNext}
+use Rattle.far_events.specs.declared.event.Kind.TheVariants.{Free}
+use Rattle.far_events.specs.events.Legal.{IsNext}
 use Rattle.far_core.specs.state.Room.{room}
-use Rattle.far_core.specs.state.State.{State}
+use Rattle.far_events.specs.state.State.{State}
 
 -- a log of the heap that is free
 abbrev pub IsFree : State → ℕ → Type 0

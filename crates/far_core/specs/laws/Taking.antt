@@ -7,13 +7,13 @@ use Rattle.far_word.specs.declared.pointer.Place.{Place}
 use Rattle.far_word.specs.declared.pointer.PtrWord.TheVariants.{Near}
 use Rattle.far_word.specs.Job.{job_of}
 use Rattle.far_word.specs.Pointer.{read_of}
-use Rattle.far_core.specs.declared.event.Event.{Event}
-use Rattle.far_core.specs.declared.event.Event.TheVariants.{Get, Name, Offer}
-use Rattle.far_core.specs.events.Step.{step_of}
+use Rattle.far_events.specs.declared.event.Event.{Event}
+use Rattle.far_events.specs.declared.event.Event.TheVariants.{Get, Name, Offer}
+use Rattle.far_events.specs.events.Step.{step_of}
 use Rattle.far_core.specs.laws.Refusals.{IsRefused}
 use Rattle.far_core.specs.laws.RefusedNamings.{IsElsewhere}
-use Rattle.far_core.specs.state.Jobs.{is_finished, job_at, job_words, near_place, source, target}
-use Rattle.far_core.specs.state.State.{State}
+use Rattle.far_events.specs.state.Jobs.{is_finished, job_at, job_words, near_place, source, target}
+use Rattle.far_events.specs.state.State.{State}
 
 -- a job is void from the moment when another round begins than that in which it was offered, its source's log leaves the round, or its pointer
 -- lies elsewhere

@@ -8,13 +8,14 @@ use Rattle.far_word.specs.declared.sizes.TheConstants.{CELLS, LONGEST, POINTERS}
 use Rattle.far_word.specs.Bytes.{packed_word}
 use Rattle.far_word.specs.Pointer.{read_of}
 use Rattle.far_word.specs.Rows.{no_marks}
-use Rattle.far_core.specs.declared.event.Event.{Event}
-use Rattle.far_core.specs.declared.event.Event.TheVariants.{Open, Pin, Load, Store, Close, Name, Mark, Ask, Get, Clear, Offer}
-use Rattle.far_core.specs.declared.event.Reply.{Reply}
-use Rattle.far_core.specs.declared.event.Reply.TheVariants.{Word}
-use Rattle.far_core.specs.world.Changes.{Change, Step}
-use Rattle.far_core.specs.world.Changes as change
-use Rattle.far_core.specs.events.Step.{change_of}
+use Rattle.far_events.specs.declared.event.Event.{Event}
+use Rattle.far_events.specs.declared.event.Event.TheVariants.{Open, Pin, Load, Store, Close, Name, Mark, Ask, Get, Clear, Offer}
+use Rattle.far_events.specs.declared.event.Reply.{Reply}
+use Rattle.far_events.specs.declared.event.Reply.TheVariants.{Word}
+use Rattle.far_events.specs.events.Changes.{Change}
+use Rattle.far_core.specs.world.Changes.{Step}
+use Rattle.far_events.specs.events.Changes as change
+use Rattle.far_events.specs.events.Step.{change_of}
 use Rattle.far_core.specs.world.Happens.{Happens}
 use Rattle.far_core.specs.world.World.{World, Object, Group}
 

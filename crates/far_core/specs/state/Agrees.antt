@@ -5,9 +5,9 @@ use Rattle.far_word.specs.declared.pointer.Place.{Place}
 use Rattle.far_word.specs.declared.pointer.PtrWord.TheVariants.{Near}
 use Rattle.far_word.specs.declared.sizes.TheConstants.{CELLS}
 use Rattle.far_word.specs.Pointer.{read_of}
-use Rattle.far_core.specs.state.State.{State}
-use Rattle.far_core.specs.state.Law.{in_use}
-use Rattle.far_core.specs.events.Legal.{IsOpen}
+use Rattle.far_events.specs.state.State.{State}
+use Rattle.far_events.specs.state.Law.{in_use}
+use Rattle.far_events.specs.events.Legal.{IsOpen}
 
 -- each view is a held place of an open owner, whose pointer still names that place with neither MOVE nor DROP; and
 -- each cell that an owner uses is used and not dropped

@@ -1,13 +1,9 @@
 -- Whether a core keeps the words that are stored, so that it can tell of a naming that is given as data whether it is legal.
-use Rattle.std.specs.Prelude.{Bool, true, false, not, ◌||◌, is_some, List}
+use Rattle.std.specs.Prelude.{Bool, not, ◌||◌, is_some, List}
 use Rattle.std.specs.List.{list_all}
-use Rattle.far_core.specs.declared.event.Event.{Event}
-use Rattle.far_core.specs.declared.event.Event.TheVariants.{Name}
+use Rattle.far_events.specs.declared.event.Event.{Event}
 use Rattle.far_core.specs.declared.machine.Core.{Core}
-
-abbrev pub is_naming : Event → Bool
-is_naming (Name p old new) = true
-is_naming e = false
+use Rattle.far_events.specs.events.Name.{is_naming}
 
 abbrev pub keeps_stored : Core → Bool
 keeps_stored core = is_some core.rows

@@ -1,24 +1,8 @@
 -- The steps of the world as data, and what each is: a relation of Steps.antt, by the same name.
-use Rattle.std.specs.Prelude.{◌≡◌, ℕ, Option, Some, None}
+use Rattle.std.specs.Prelude.{◌≡◌, Option, Some, None}
 use Rattle.far_core.specs.world.World.{World}
 use Rattle.far_core.specs.world.Steps as world
-
-pub data Change : Type 0 where
-  Stays : Change
-  Opens : ℕ → Change
-  Closes : ℕ → Change
-  Views : ℕ → ℕ → Change
-  Reads : ℕ → ℕ → ℕ → ℕ → Change
-  Writes : ℕ → ℕ → ℕ → ℕ → Change
-  Makes : ℕ → ℕ → ℕ → ℕ → Change
-  Marks : ℕ → Change
-  Unmarks : ℕ → Change
-  Moves : ℕ → ℕ → Change
-  GoesFar : ℕ → Change
-  ComesNear : ℕ → ℕ → Change
-  Drops : ℕ → ℕ → Change
-  Releases : ℕ → Change
-  Holds : ℕ → Change
+use Rattle.far_events.specs.events.Changes.{Change, Stays, Opens, Closes, Views, Reads, Writes, Makes, Marks, Unmarks, Moves, GoesFar, ComesNear, Drops, Releases, Holds}
 
 abbrev pub Step : Change → World → World → Type 0
 Step Stays w v = v ≡ w

@@ -1,8 +1,8 @@
 -- What the world does at an event with its reply.
-use Rattle.far_core.specs.declared.event.Event.{Event}
-use Rattle.far_core.specs.declared.event.Reply.{Reply}
+use Rattle.far_events.specs.declared.event.Event.{Event}
+use Rattle.far_events.specs.declared.event.Reply.{Reply}
 use Rattle.far_core.specs.world.Changes.{StepOf}
-use Rattle.far_core.specs.events.Step.{change_of}
+use Rattle.far_events.specs.events.Step.{change_of}
 use Rattle.far_core.specs.world.World.{World}
 
 abbrev pub Happens : World → Event → Reply → World → Type 0

@@ -1,12 +1,12 @@
 -- Whole runs: of states, and of worlds.
 use Rattle.std.specs.Prelude.{◌≡◌, List, [], ◌∷◌}
-use Rattle.far_core.specs.declared.event.Event.{Event}
-use Rattle.far_core.specs.declared.event.Reply.{Reply}
+use Rattle.far_events.specs.declared.event.Event.{Event}
+use Rattle.far_events.specs.declared.event.Reply.{Reply}
 use Rattle.far_core.specs.state.Agrees.{Agrees}
 use Rattle.far_core.specs.world.Happens.{Happens}
-use Rattle.far_core.specs.state.Law.{Law}
-use Rattle.far_core.specs.state.State.{State}
-use Rattle.far_core.specs.events.Step.{step_of}
+use Rattle.far_events.specs.state.Law.{Law}
+use Rattle.far_events.specs.state.State.{State}
+use Rattle.far_events.specs.events.Step.{step_of}
 use Rattle.far_core.specs.world.World.{World}
 
 -- one step from s to t: the definition's state and answer; t has the law, and its views rest on what it says

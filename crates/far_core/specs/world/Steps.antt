@@ -3,7 +3,7 @@
 use Rattle.std.specs.Prelude.{◌≡◌, ◌≢◌, ℕ, ◌*◌, ◌/◌, ◌<◌, ◌≤◌, true, false, cond, ◌==◌, ◌||◌, Some, None, List, length, replicate, is_some, slice_index}
 use Rattle.far_word.specs.declared.sizes.TheConstants.{CELLS, LONGEST}
 use Rattle.far_word.specs.Bytes.{packed_word, with_word}
-use Rattle.far_core.specs.state.State.{put}
+use Rattle.far_events.specs.state.State.{put}
 use Rattle.far_core.specs.world.World.{World, Object, Home, Group, FarSide}
 
 -- the object with other bytes, or another home

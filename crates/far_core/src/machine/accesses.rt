@@ -2,13 +2,12 @@
 
 ghost use Rattle.std.specs.Prelude.{◌≡◌, ◌+◌, ◌≤◌, Some, length, IsSome};
 ghost use Rattle.far_word.specs.Bytes.{bytes_of};
-ghost use Rattle.far_word.specs.Pointer.{read_of, word_of};
-ghost use Rattle.far_word.specs.Pointer.{without_owner_marks as cold};
+ghost use Rattle.far_word.specs.Pointer.{read_of, word_of, without_owner_marks as cold};
 ghost use Rattle.far_word.specs.declared.pointer.PtrWord.{PtrWord};
-ghost use Rattle.far_core.specs.events.Accesses.{IsAtRest, cools, heats, hot_word, moved_word, overwrites_in, overwritten, with_cell};
-ghost use Rattle.far_core.specs.events.Ranges.{AllLegal, after_events};
-ghost use Rattle.far_core.specs.events.Step.{data_len, data_word, place_to_view};
-ghost use Rattle.far_core.specs.events.Written.{spliced};
+ghost use Rattle.far_events.specs.events.Accesses.{IsAtRest, cools, heats, hot_word, moved_word, overwrites_in, overwritten, with_cell};
+ghost use Rattle.far_events.specs.events.Ranges.{AllLegal, after_events};
+ghost use Rattle.far_events.specs.events.Step.{data_len, data_word, place_to_view};
+ghost use Rattle.far_events.specs.events.Written.{spliced};
 ghost use Rattle.far_core.specs.state.CoreState.{core_state};
 ghost use Rattle.far_core.specs.state.Kept.{keeps_stored};
 

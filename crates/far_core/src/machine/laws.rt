@@ -7,22 +7,22 @@ ghost use Rattle.far_word.specs.Pointer.{read_of};
 ghost use Rattle.far_log.specs.declared.span.Span.{Span};
 ghost use Rattle.far_log.specs.Spans.{HasOneSpan, HasNoSpan};
 ghost use Rattle.far_log.specs.Walk.{IsWalk};
-ghost use Rattle.far_core.specs.declared.event.Kind.TheVariants.{Free, Open};
+ghost use Rattle.far_events.specs.declared.event.Kind.TheVariants.{Free, Open};
 ghost use Rattle.far_core.specs.state.Agrees.{Agrees};
 ghost use Rattle.far_core.specs.state.CoreState.{core_state};
-ghost use Rattle.far_core.specs.state.Law.{Law};
-ghost use Rattle.far_core.specs.events.Leaves.{EventsLeave};
-ghost use Rattle.far_core.specs.events.Legal.{Legal};
-ghost use Rattle.far_core.specs.laws.Ends.{HasNothingPast, IsWhatIsWithin};
+ghost use Rattle.far_events.specs.state.Law.{Law};
+ghost use Rattle.far_core.specs.laws.Leaves.{EventsLeave};
+ghost use Rattle.far_events.specs.events.Legal.{Legal};
+ghost use Rattle.far_events.specs.state.Ends.{HasNothingPast, IsWhatIsWithin};
 ghost use Rattle.far_core.specs.laws.Jobs.{JobsStand};
 ghost use Rattle.far_core.specs.laws.Live.{LiveIs, LiveBytesAre};
 ghost use Rattle.far_core.specs.laws.Observed.{live_bytes, dead_bytes, unused_bytes, HasOnePlace, NamesOnce, LogsStand, NearHasOneLive, PlacedExactly};
-ghost use Rattle.far_core.specs.state.Opening.{opening};
-ghost use Rattle.far_core.specs.state.Shape.{is_shape};
-ghost use Rattle.far_core.specs.state.Spans.{IsOfHeap, spans_of, word_in};
-ghost use Rattle.far_core.specs.state.State.{State};
-ghost use Rattle.far_core.specs.events.Step.{is_legal};
-ghost use Rattle.far_core.specs.events.Reports.{RepliesReport, RefusalsReportNothing};
+ghost use Rattle.far_events.specs.state.Opening.{opening};
+ghost use Rattle.far_events.specs.state.Shape.{is_shape};
+ghost use Rattle.far_events.specs.state.Spans.{IsOfHeap, spans_of, word_in};
+ghost use Rattle.far_events.specs.state.State.{State};
+ghost use Rattle.far_events.specs.events.Step.{is_legal};
+ghost use Rattle.far_events.specs.events.Reports.{RepliesReport, RefusalsReportNothing};
 ghost use Rattle.far_core.specs.world.World.{start};
 ghost use Rattle.far_core.specs.laws.Agreement.{ViewRests, MarksAgree, MarksExist, ObjectAgrees};
 ghost use Rattle.far_core.specs.laws.Namings.{NamingsArePlain};
@@ -34,9 +34,8 @@ ghost use Rattle.far_core.specs.laws.Taking.{CopiesAreTaken, TakingIsRefused};
 ghost use Rattle.far_core.specs.laws.Worlds.{ObjectsStand, StepsKeep, LoadsRead, StepsAreOne, LyingIsOpen, ChangesKeep, ChangesAreOne, EventsCause};
 ghost use Rattle.far_core.specs.world.WorldOf.{world_of};
 
-use crate::event::Event;
 use crate::machine::Core;
-use crate::shape::Shape;
+use far_events::{Event, Shape};
 
 impl Core {
     /// Every core keeps the law, and its views rest on words that it says they may.

@@ -3,12 +3,11 @@
 ghost use Rattle.std.specs.Prelude.{◌≡◌, ◌+◌, ◌*◌, ◌<◌, not, ◌==◌, is_some, ℕ, length, slice_index};
 ghost use Rattle.far_word.specs.declared.sizes.TheConstants.{CELLS, EPOCH_END, LOG_WORDS};
 ghost use Rattle.far_core.specs.state.CoreState.{core_state};
-ghost use Rattle.far_core.specs.state.Memory.{state_of};
-ghost use Rattle.far_core.specs.events.Step.{is_opened};
+ghost use Rattle.far_events.specs.state.Memory.{state_of};
+ghost use Rattle.far_events.specs.events.Step.{is_opened};
 
-use crate::event::Kind;
 use crate::machine::Core;
-use crate::memory::reading::first_word;
+use far_events::{Kind, first_word};
 use far_word::Place;
 
 impl Core {

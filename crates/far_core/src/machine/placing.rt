@@ -4,9 +4,9 @@ ghost use Rattle.std.specs.Prelude.{◌≡◌, ◌+◌, ◌/◌, ◌≤◌, None
 ghost use Rattle.far_word.specs.Header.{IsHead};
 ghost use Rattle.far_word.specs.Sizes.{size_of};
 ghost use Rattle.far_word.specs.declared.sizes.TheConstants.{CELLS, LOG_WORDS};
-ghost use Rattle.far_core.specs.events.Legal.{IsClosed, IsNext};
-ghost use Rattle.far_core.specs.events.NewObjects.{made_with, places_with};
-ghost use Rattle.far_core.specs.events.Ranges.{AllLegal, after_events};
+ghost use Rattle.far_events.specs.events.Legal.{IsClosed, IsNext};
+ghost use Rattle.far_events.specs.events.NewObjects.{made_with, places_with};
+ghost use Rattle.far_events.specs.events.Ranges.{AllLegal, after_events};
 ghost use Rattle.far_core.specs.state.CoreState.{core_state};
 ghost use Rattle.far_core.specs.state.Kept.{keeps_stored};
 

@@ -5,21 +5,21 @@ ghost use Rattle.far_word.specs.declared.sizes.TheConstants.{CELLS, LOG_WORDS};
 ghost use Rattle.far_word.specs.Bytes.{bytes_of, packed_word};
 ghost use Rattle.far_word.specs.Sizes.{words_for};
 ghost use Rattle.far_word.specs.declared.pointer.Place.{Place};
-ghost use Rattle.far_core.specs.events.Ranges.{AllLegal, after_events, copies, puts, stores};
-ghost use Rattle.far_core.specs.events.Legal.{Legal};
-ghost use Rattle.far_core.specs.events.Step.{answer, data_len, data_word};
+ghost use Rattle.far_events.specs.events.Ranges.{AllLegal, after_events, copies, puts, stores};
+ghost use Rattle.far_events.specs.events.Legal.{Legal};
+ghost use Rattle.far_events.specs.events.Step.{answer, data_len, data_word};
 ghost use Rattle.far_core.specs.state.CoreState.{core_state};
 ghost use Rattle.far_core.specs.state.Kept.{keeps_stored};
-ghost use Rattle.far_core.specs.state.Law.{Law};
-ghost use Rattle.far_core.specs.state.Memory.{state_of};
-ghost use Rattle.far_core.specs.state.State.{State, addr};
-ghost use Rattle.far_core.specs.events.Written.{spliced, written_words};
-ghost use Rattle.far_core.specs.declared.event.Event.{Event};
-ghost use Rattle.far_core.specs.declared.event.Kind.{Kind};
-ghost use Rattle.far_core.specs.declared.event.Reply.{Reply};
+ghost use Rattle.far_events.specs.state.Law.{Law};
+ghost use Rattle.far_events.specs.state.Memory.{state_of};
+ghost use Rattle.far_events.specs.state.State.{State, addr};
+ghost use Rattle.far_events.specs.events.Written.{spliced, written_words};
+ghost use Rattle.far_events.specs.declared.event.Event.{Event};
+ghost use Rattle.far_events.specs.declared.event.Kind.{Kind};
+ghost use Rattle.far_events.specs.declared.event.Reply.{Reply};
 
-use crate::event::{Event, Kind, Reply};
 use crate::machine::Core;
+use far_events::{Event, Kind, Reply};
 use far_word::Place;
 
 /// As many events as there are words, with their guards as the condition. No call here takes memory.
@@ -40,7 +40,7 @@ impl Core {
     /// Data words of an object that its owner has soiled, from its word `first` on, become `words`, whose bytes past the object's
     /// end are 0: a store each.
     #[inline]
-    #[tactic(auto, using(crate::proofs::Calls::soiled_held))]
+    #[tactic(auto, using(far_events::proofs::Calls::soiled_held))]
     pub fn store_all(&mut self, owner: u8, pointer: u16, first: u16, words: &[u64])
         // the guards, in what its owner knows
         requires own { pointer / CELLS ≡ owner }
@@ -75,7 +75,7 @@ impl Core {
 
     /// Bytes of an object that its owner has soiled, from its byte `from` on, become `bytes`: a store of each word that has one.
     #[inline]
-    #[tactic(auto, using(crate::proofs::Calls::soiled_held))]
+    #[tactic(auto, using(far_events::proofs::Calls::soiled_held))]
     pub fn store_bytes(&mut self, owner: u8, pointer: u16, from: u16, bytes: &[u8])
         // the guards, in what its owner knows
         requires own { pointer / CELLS ≡ owner }

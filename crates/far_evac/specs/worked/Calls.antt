@@ -1,17 +1,17 @@
 -- Lists of calls on a heap that nobody else steps, and what they answer: for worked examples of the definitions.
-use Rattle.std.specs.Prelude.{ℕ, Bool, true, false, cond, not, Option, Some, None, List, [], ◌∷◌, length, map, take}
+use Rattle.std.specs.Prelude.{◌≡◌, ℕ, Bool, true, false, cond, not, Option, Some, None, List, [], ◌∷◌, length, map, take}
 use Rattle.far_word.specs.declared.pointer.Place.{Place}
 use Rattle.far_word.specs.declared.refused.Refused.{Refused as Refusal}
 use Rattle.far_word.specs.declared.refused.Refused.TheVariants.{NoRoom, Phase as WrongPhase, EpochsSpent}
 use Rattle.far_word.specs.Pointer.{read_of}
 use Rattle.far_word.specs.Sizes.{size_of}
-use Rattle.far_core.specs.declared.event.Event.{Event}
-use Rattle.far_core.specs.declared.event.Event.TheVariants.{Adopt}
-use Rattle.far_core.specs.declared.event.Reply.{Reply}
-use Rattle.far_core.specs.events.Step.{step_of}
-use Rattle.far_core.specs.state.Opening.{opening}
+use Rattle.far_events.specs.declared.event.Event.{Event}
+use Rattle.far_events.specs.declared.event.Event.TheVariants.{Adopt}
+use Rattle.far_events.specs.declared.event.Reply.{Reply}
+use Rattle.far_events.specs.events.Step.{step_of}
+use Rattle.far_events.specs.state.Opening.{opening}
 use Rattle.far_core.specs.state.Room.{room}
-use Rattle.far_core.specs.state.State.{State}
+use Rattle.far_events.specs.state.State.{State}
 use Rattle.far_policy.specs.LeastLive.{least_live}
 use Rattle.far_policy.specs.Logs.{logs_of}
 use Rattle.far_book.specs.book.Dealing.{goal, moved_now, order_moved}
@@ -37,7 +37,8 @@ use Rattle.far_evac.specs.Turns.{round_end, turns_made}
 use Rattle.far_evac.specs.Waiting.{after_polling, polled}
 use Rattle.far_evac.specs.Walk.{walked, ended, is_done}
 
--- an owner's event; a new object, for an owner; the book's calls on an object; and the evacuator's calls. `Selects` and `Rounds` choose the oldest logs, `SelectsEmptiest` those with the fewest live bytes
+-- an owner's event; a new object, for an owner; the book's calls on an object; and the evacuator's calls. `Selects` and `Rounds` choose the oldest logs,
+-- `SelectsEmptiest` those with the fewest live bytes
 pub data Call : Type 0 where
   Own : (event : Event) → Call
   News : (owner pointer len : ℕ) → Call
@@ -139,3 +140,18 @@ turn_of m Audits = (m, Homes (homes_of m.core))
 abbrev pub answers : Moment → List Call → List Answer
 answers m [] = []
 answers m (c ∷ cs) = let turn = turn_of m c in turn.1 ∷ answers turn.0 cs
+
+-- a call, and what it is to answer
+infix 68 ◌⟶◌
+pub data Line : Type 0 where
+  ◌⟶◌ : (call : Call) → (answer : Answer) → Line
+
+abbrev pub call_of : Line → Call
+call_of (call ⟶ answer) = call
+
+abbrev pub answer_of : Line → Answer
+answer_of (call ⟶ answer) = answer
+
+-- from this moment on each call answers what stands behind it
+abbrev pub Plays : Moment → List Line → Type 0
+Plays m lines = answers m (map call_of lines) ≡ map answer_of lines

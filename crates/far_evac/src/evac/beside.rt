@@ -4,7 +4,7 @@ ghost use Rattle.std.specs.Prelude.{◌≡◌, ◌⊎◌, ◌+◌, ◌*◌, ◌^
 ghost use Rattle.far_device.specs.Following.{Follows, none_of, other_than};
 ghost use Rattle.far_word.specs.declared.refused.Refused.TheVariants.{Device as Failed, Memory};
 ghost use Rattle.far_word.specs.declared.sizes.TheConstants.{CELLS, LOG_WORDS};
-ghost use Rattle.far_core.specs.events.Quiet.{IsClearNear};
+ghost use Rattle.far_events.specs.events.Quiet.{IsClearNear};
 ghost use Rattle.far_hand.specs.Came.{Came};
 ghost use Rattle.far_book.specs.book.Asking.{AsksToEvict};
 ghost use Rattle.far_book.specs.book.Dealing.{is_failure};
@@ -87,17 +87,29 @@ fn deal_beside<N: Near + Drop, D: Device + Drop>(
     cell: u64,
     progress: &mut Progress,
 ) -> Result<(), Refused>
+    // the object is near with EVAC, in a log of the round, its owner was seen clear, and there is room to count it
     requires pointer { pointer < CELLS * (N.view book.old.near).mutators }
     requires cell { cell ≡ (N.view book.old.near).cell pointer }
     requires clear { IsClearNear (N.view book.old.near) pointer }
     requires room { objects_in (tally_of progress.old) + 1 < 2 ^ 64 }
+
+    // only calls of the hand led there
     ensures came { Came N.makes book.old.near book.new.near }
+
+    // done: the object was dealt with as the word says that was found in its cell, at most one was counted, and the device was asked for just
+    // that
     ensures dealt { IfOk result (λ _. (held : List ℕ) → DealsBeside D (AsksOnly D D.writes D.lets_go D.contents) (stands (N.view) book.old progress.old held) pointer (stands (N.view) book.new progress.new held)
         book.old.device book.new.device) }
     ensures counted { IfOk result (λ _. objects_in (tally_of progress.new) ≤ objects_in (tally_of progress.old) + 1) }
+
+    // refused: nothing has changed but what is known, and nothing was counted
     ensures kept { IfErr result (λ _. Knows (N.view book.old.near) (N.view book.new.near)) }
     ensures uncounted { IfErr result (λ _. (progress.new ≡ progress.old) × (book.new.order ≡ book.old.order)) }
+
+    // logs that came back, and whether the round is over, are counted as before
     ensures rest { (progress.new.freed ≡ progress.old.freed) × (progress.new.done ≡ progress.old.done) }
+
+    // refused by the one write that was asked for, for want of memory or as the device failed; other keys keep what they had
     ensures refused { IfErr result (λ why. AsksToEvict D D.writes D.lets_go (N.view book.old.near) pointer (Err why) book.old.device book.new.device) }
     ensures follows { Follows D.contents D.honest D.faults D.fails_at_most (other_than pointer) (is_failure result) book.old.device book.new.device }
     ensures why { IfErr result (λ why. (why ≡ Memory) ⊎ (why ≡ Failed)) }
@@ -119,13 +131,22 @@ fn offer_or_leave<N: Near + Drop, D: Device + Drop>(
     pointer: u16,
     cell: u64,
 ) -> Result<Option<Fate>, Refused>
+    // the object is near with EVAC, in a log of the round, and its owner was seen clear
     requires pointer { pointer < CELLS * (N.view book.old.near).mutators }
     requires cell { cell ≡ (N.view book.old.near).cell pointer }
     requires clear { IsClearNear (N.view book.old.near) pointer }
+
+    // only calls of the hand led there
     ensures came { Came N.makes book.old.near book.new.near }
+
+    // done: its copy is offered, or it has left, as the word says that was found in its cell, and the device was asked for just that
     ensures dealt { IfOk result (λ fate. GoesBeside D D.writes D.lets_go (N.view book.old.near) book.old.order (N.view book.new.near) book.new.order pointer fate book.old.device book.new.device) }
+
+    // refused: nothing has changed but what is known, and the order stays
     ensures kept { IfErr result (λ _. Knows (N.view book.old.near) (N.view book.new.near)) }
     ensures order { IfErr result (λ _. book.new.order ≡ book.old.order) }
+
+    // refused by the one write that was asked for, for want of memory or as the device failed; other keys keep what they had
     ensures refused { IfErr result (λ why. AsksToEvict D D.writes D.lets_go (N.view book.old.near) pointer (Err why) book.old.device book.new.device) }
     ensures follows { Follows D.contents D.honest D.faults D.fails_at_most (other_than pointer) (is_failure result) book.old.device book.new.device }
     ensures why { IfErr result (λ why. (why ≡ Memory) ⊎ (why ≡ Failed)) }

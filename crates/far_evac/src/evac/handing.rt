@@ -4,7 +4,7 @@ ghost use Rattle.far_hand.specs.Quiet.{IsQuietNear};
 ghost use Rattle.far_book.specs.book.Calls.{FetchesObject, FindsHome, ListsSpans, MovesObject, PlacesObject, RetiresObject};
 ghost use Rattle.far_book.specs.book.Fetching.{IsFar};
 ghost use Rattle.far_book.specs.book.Rows.{row_of};
-ghost use Rattle.far_core.specs.events.Naming.{is_dropped};
+ghost use Rattle.far_events.specs.events.Naming.{is_dropped};
 ghost use Rattle.far_word.specs.Pointer.{read_of};
 ghost use Rattle.far_word.specs.declared.refused.Refused.TheVariants.{Memory};
 ghost use Rattle.far_word.specs.declared.sizes.TheConstants.{CELLS, LONGEST};

@@ -2,7 +2,7 @@
 
 ghost use Rattle.std.specs.Prelude.{◌≡◌, ◌+◌, ◌<◌, ◌≤◌, ℕ, true, false, not, fold, [], length, drop, IfSome, IfNone};
 ghost use Rattle.far_word.specs.declared.sizes.TheConstants.{JOBS, MOST_LOGS};
-ghost use Rattle.far_core.specs.events.Advance.{is_among};
+ghost use Rattle.far_events.specs.events.Advance.{is_among};
 ghost use Rattle.far_hand.specs.Came.{Came};
 ghost use Rattle.far_book.specs.book.Collecting.{TakesBack};
 ghost use Rattle.far_book.specs.book.NextLive.{IsBoundary};
@@ -180,12 +180,19 @@ fn seek<N: Near + Drop, D: Device + Drop>(
     book: &mut Book<N, D>,
     round: &Round,
 ) -> (Cursor, Option<Span>)
+    // the round is marking, and agrees with what the book knows
     requires stands { InRound (N.view book.old.near) round.now }
     requires marking { round.now.phase ≡ phase.Marking }
+
+    // only calls of the hand led there
     ensures came { Came N.makes book.old.near book.new.near }
+
+    // from where the round stands to the next object that lacks EVAC, where it stands then; `None` only behind all its logs
     ensures stands { InRound (N.view book.new.near) (standing_at round.now result.0) }
     ensures next { IfSome result.1 (λ span. StandsAt (N.view book.new.near) (standing_at round.now result.0) span) }
     ensures none { IfNone result.1 (result.0.index ≡ length round.now.chosen) }
+
+    // nothing has changed but what is known, over a hand that is still nothing at all; the order of logs and the device stay
     ensures known { Knows (N.view book.old.near) (N.view book.new.near) }
     ensures exact { N.still → N.view book.new.near ≡ N.view book.old.near }
     ensures order { book.new.order ≡ book.old.order }
@@ -213,12 +220,19 @@ fn next_unmarked<N: Near + Drop, D: Device + Drop>(
     log: u8,
     at: u16,
 ) -> Option<Span>
+    // a span begins at `at`, or the log's spans end there, and each object that lies before has EVAC
     requires log { log < (N.view book.old.near).logs }
     requires begins { IsBoundary (N.view book.old.near) log at }
     requires before { MarkedBefore (N.view book.old.near) log at }
+
+    // only calls of the hand led there
     ensures came { Came N.makes book.old.near book.new.near }
+
+    // the log's first object that lacks EVAC; `None` only where each has it
     ensures next { IfSome result (λ span. IsNextLacking (N.view book.new.near) log span) }
     ensures none { IfNone result (AllMarked (N.view book.new.near) log) }
+
+    // nothing has changed but what is known, over a hand that is still nothing at all; the order of logs and the device stay
     ensures known { Knows (N.view book.old.near) (N.view book.new.near) }
     ensures exact { N.still → N.view book.new.near ≡ N.view book.old.near }
     ensures order { book.new.order ≡ book.old.order }

@@ -40,18 +40,32 @@ impl<N: Near + Drop, D: Device + Drop> Evac<N, D> {
         n: u64,
         progress: &mut Progress,
     ) -> Result<bool, Refused>
+        // objects are leaving, copies may be offered, and nothing is counted yet
         requires phase { self.old.phase ≡ phase.Evacuating }
         requires copying { self.old.copying ≡ true }
         requires begun { progress.old ≡ progress_of nothing false }
+
+        // only calls of the hand led there
         ensures came { Came N.makes self.old.book.near self.new.book.near }
+
+        // done: the jobs were collected, n objects were dealt with, or all, as it is counted, and the device was asked for just that
         ensures asked { IfOk result (λ _. EvacuatesAsking D D.writes D.lets_go D.contents (moment N.view self.old) n (moment N.view self.new) (tally_of progress.new) self.old.book.device self.new.book.device) }
+
+        // refused at an object: those before it were dealt with and counted, and the one write of this one was refused
         ensures refused { IfErr result (λ why. StopsRefused D D.writes D.lets_go D.contents (moment N.view self.old) n (moment N.view self.new) (tally_of progress.new) why self.old.book.device self.new.book.device) }
+
+        // the round is over just where the answer says so, as no log is left, and where it was refused goes on; that was for want of memory, or as the
+        // device failed
         ensures over { IfOk result (λ done. (done ≡ is_empty self.new.collection) × (is_idle self.new.phase ≡ done)) }
         ensures stays { IfErr result (λ _. self.new.phase ≡ self.old.phase) }
         ensures why { IfErr result (λ why. (why ≡ Memory) ⊎ (why ≡ Failed)) }
+
+        // no more is counted than a heap may have, and copies may be offered still
         ensures done { progress.new.done ≡ false }
         ensures copying { self.new.copying ≡ true }
         ensures bounded { IsBoundedBy true (tally_of progress.new) }
+
+        // keys of objects that lie elsewhere keep what they had
         ensures follows { Follows D.contents D.honest D.faults D.fails_at_most (none_of (live_among (N.view self.old.book.near) self.old.collection)) (is_failure result) self.old.book.device self.new.book.device }
     {
         self.book.keeps_law();
@@ -84,19 +98,30 @@ fn walk_logs<N: Near + Drop, D: Device + Drop>(
     progress: &mut Progress,
     kept: &mut Chosen,
 ) -> Passage
+    // nothing is kept yet, the logs are of the round and each is named once, and there is room to count them and what lies there
     requires none { kept.old ≡ [] }
     requires chosen { (l : ℕ) → among logs.now l ≡ true → IsChosen (N.view book.old.near) l }
     requires once { IsDistinct eqb logs.now }
     requires most { length logs.now ≤ MOST_CHOSEN }
     requires room { objects_in (tally_of progress.old) + length logs.now * LOG_WORDS < 2 ^ 64 }
     requires freed { progress.old.freed + length logs.now < 2 ^ 64 }
+
+    // only calls of the hand led there
     ensures came { Came N.makes book.old.near book.new.near }
+
+    // the logs were walked over in turn until n objects were dealt with, or one was refused, and each in which nothing is left came back
     ensures over { (held : List ℕ) → OverLogs D (AsksOnly D D.writes D.lets_go D.contents) (RefusedOnly D D.writes D.lets_go D.contents) logs.now n (stands (N.view) book.old progress.old held) (stands (N.view) book.new progress.new held)
         kept.new (end_of result) book.old.device book.new.device }
+
+    // those that are kept may be walked over again, each other one has left the round, and none has come into it
     ensures keeps { KeepsRound (N.view book.old.near) logs.now kept.new (N.view book.new.near) }
+
+    // no more is counted than lies in these logs; whether the round is over is told as before
     ensures counted { objects_in (tally_of progress.new) ≤ objects_in (tally_of progress.old) + length logs.now * LOG_WORDS }
     ensures freed { progress.new.freed ≤ progress.old.freed + length logs.now }
     ensures done { progress.new.done ≡ progress.old.done }
+
+    // refused for want of memory, or as the device failed; keys of objects that lie elsewhere keep what they had
     ensures why { (p : ℕ) (why : Refused) → end_of result ≡ At p why → (why ≡ Memory) ⊎ (why ≡ Failed) }
     ensures follows { Follows D.contents D.honest D.faults D.fails_at_most (none_of (live_among (N.view book.old.near) logs.now)) (is_failed (end_of result)) book.old.device book.new.device }
 {

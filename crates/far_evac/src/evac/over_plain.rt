@@ -1,17 +1,16 @@
 //! The evacuator over a core of its own: what owners do.
 
-ghost use Rattle.std.specs.Prelude.{◌≡◌, ◌+◌, ◌-◌, ◌*◌, ◌/◌, ◌^◌, ◌<◌, ◌≤◌, ℕ, None, Some, true, false, length, slice_index, IsSome, IfOk, IfErr};
+ghost use Rattle.std.specs.Prelude.{◌≡◌, ◌+◌, ◌-◌, ◌*◌, ◌/◌, ◌^◌, ◌<◌, ◌≤◌, ℕ, None, Some, true, false, length, slice_index, IsSome, IfOk, IfErr, OnErr};
 ghost use Rattle.far_word.specs.declared.sizes.TheConstants.{CELLS, LONGEST};
 ghost use Rattle.far_word.specs.Sizes.{words_for};
 ghost use Rattle.far_word.specs.declared.pointer.PtrWord.{PtrWord};
-ghost use Rattle.far_word.specs.Pointer.{read_of, word_of};
-ghost use Rattle.far_word.specs.Pointer.{without_owner_marks as cold};
-ghost use Rattle.far_core.specs.events.Accesses.{IsAtRest, heats, hot_word, overwrites_in, overwritten, with_cell};
-ghost use Rattle.far_core.specs.events.Legal.{IsClosed, Legal};
-ghost use Rattle.far_core.specs.events.Pin.{place_to_view};
-ghost use Rattle.far_core.specs.events.Ranges.{AllLegal, after_events, stores};
-ghost use Rattle.far_core.specs.events.Step.{after, answer, data_len, data_word, step_of};
-ghost use Rattle.far_core.specs.events.Written.{written_words};
+ghost use Rattle.far_word.specs.Pointer.{read_of, word_of, without_owner_marks as cold};
+ghost use Rattle.far_events.specs.events.Accesses.{IsAtRest, heats, hot_word, overwrites_in, overwritten, with_cell};
+ghost use Rattle.far_events.specs.events.Legal.{IsClosed, Legal};
+ghost use Rattle.far_events.specs.events.Pin.{place_to_view};
+ghost use Rattle.far_events.specs.events.Ranges.{AllLegal, after_events, stores};
+ghost use Rattle.far_events.specs.events.Step.{after, answer, data_len, data_word, step_of};
+ghost use Rattle.far_events.specs.events.Written.{written_words};
 ghost use Rattle.far_core.specs.state.CoreState.{core_state};
 ghost use Rattle.far_core.specs.world.Happens.{Happens};
 ghost use Rattle.far_core.specs.world.WorldOf.{world_of};
@@ -109,13 +108,14 @@ impl<D: Device + Drop> Evac<Plain, D> {
     /// Reads bytes of a far object, from one on, as many as `out` has, and leaves it far: as they were stored last, where the far side is honest.
     ///
     /// Refused [`Refused::Memory`] or [`Refused::Device`], which are the device's, and [`Refused::Damaged`], if the device gave more or fewer bytes than the
-    /// object has. Refused or not, no word has changed, and the device holds what it held.
+    /// object has. Refused or not, no word has changed, and the device holds what it held; refused, `out` is as it was.
     pub fn glance(&mut self, pointer: u16, from: u16, out: &mut [u8]) -> Result<(), Refused>
         requires far { IsFar (core_in self.old.book) pointer }
         requires inside { from + length out.old ≤ len_there (core_in self.old.book) pointer }
         ensures long { length out.new ≡ length out.old }
         ensures glances { Glances D.reads D.contents self.old.book self.new.book pointer from out.new result }
         ensures round { SameRound self.old self.new }
+        ensures kept { OnErr result (out.new ≡ out.old) }
     {
         self.book.glance(pointer, from, out)
     }
@@ -197,13 +197,20 @@ impl<D: Device + Drop> Evac<Plain, D> {
     /// leaves in which it is pinned, soiled and stored into.
     #[inline]
     pub fn write_over(&mut self, owner: u8, pointer: u16, from: u16, bytes: &[u8])
+        // an object whose owner has no scope, on which a view may rest, and a range that lies in it
         requires rest { IsAtRest (core_state self.old.book.near.core) owner pointer }
         requires rests { IsSome (place_to_view (read_of ((core_state self.old.book.near.core).cell pointer))) }
         requires inside { from + length bytes.now ≤ data_len (core_state self.old.book.near.core) pointer }
+
+        // an owner's events led there, each of them lawful: what a scope makes that pins, soils and stores
         ensures events { core_state self.new.book.near.core ≡ after_events (core_state self.old.book.near.core) (overwrites_in (core_state self.old.book.near.core) owner pointer from bytes.now) }
-        ensures rests { IsSome (place_to_view (read_of ((core_state self.new.book.near.core).cell pointer))) }
         ensures legal { AllLegal (core_state self.old.book.near.core) (overwrites_in (core_state self.old.book.near.core) owner pointer from bytes.now) }
+
+        // the range has the bytes and the pointer HOT and DIRTY; a view may rest there still
         ensures state { core_state self.new.book.near.core ≡ overwritten (core_state self.old.book.near.core) pointer from bytes.now }
+        ensures rests { IsSome (place_to_view (read_of ((core_state self.new.book.near.core).cell pointer))) }
+
+        // the order of logs, the device and the round stay
         ensures order { self.new.book.order ≡ self.old.book.order }
         ensures device { self.new.book.device ≡ self.old.book.device }
         ensures round { SameRound self.old self.new }

@@ -145,24 +145,37 @@ impl<N: Near + Drop, D: Device + Drop> Evac<N, D> {
 
     // Makes one turn of a running round, and adds what it did to what was done before.
     fn turn_more(&mut self, before: Progress) -> Result<Progress, EvacFault>
+        // a round is running, and what was counted before leaves room for a turn's
         requires running { is_idle self.old.phase ≡ false }
         requires within { self.old.copying ≡ false → IsWithin (moment N.view self.old) (tally_of before) }
         requires few { self.old.copying ≡ true → (turns : ℕ) × (turns < most_turns) × IsCountedIn turns (tally_of before) }
+
+        // only calls of the hand led there
         ensures came { Came N.makes self.old.book.near self.new.book.near }
+
+        // done: one turn was made, by the round's phase, and counted on top, and the device was asked for just what it took; over a hand that is still exactly so
         ensures turns { IfOk result (λ total. (tally : Tally) × TurnsTo (moment N.view self.old) self.old.phase tally total.done (moment N.view self.new) × (tally_of total ≡ plus (tally_of before) tally)
             × AsksInTurn N.still D D.writes D.lets_go D.contents (moment N.view self.old) self.old.phase (moment N.view self.new) tally self.old.book.device self.new.book.device
             × (self.old.copying ≡ false → KeepsKeys (first_live (moment N.view self.old) (objects_in tally)) (D.contents self.old.book.device) (D.contents self.new.book.device))) }
         ensures exact { N.still → IfOk result (λ total. turned (turned_at (moment N.view self.old) (tally_of before) false) self.old.phase ≡ turned_at (moment N.view self.new) (tally_of total) total.done) }
+
+        // the round was as its law says, and copies may be offered where they might before
         ensures lawful { IsLawful (moment N.view self.old) }
         ensures copying { self.new.copying ≡ self.old.copying }
+
+        // what is counted leaves room for a turn more, and the round is over just where that is told
         ensures goes_on { self.old.copying ≡ false → IfOk result (λ total. GoesOn (moment N.view self.new) (tally_of total) total.done) }
         ensures counted { self.old.copying ≡ true → (turns : ℕ) → IsCountedIn turns (tally_of before) → IfOk result (λ total. IsCountedIn (turns + 1) (tally_of total)) }
         ensures over { IfOk result (λ total. is_idle self.new.phase ≡ total.done) }
+
+        // refused only while objects leave, at one of them: those before it were dealt with, and are counted on top
         ensures leaving { IfErr result (λ _. self.old.phase ≡ phase.Evacuating) }
         ensures stops { IfErr result (λ fault. (tally : Tally) × StopsBy (moment N.view self.old) turn_size (moment N.view self.new) tally × (fault.so_far ≡ progress_of (plus (tally_of before) tally) false)
             × RefusesBy N.still D D.writes D.lets_go D.contents (moment N.view self.old) turn_size (moment N.view self.new) tally fault.why self.old.book.device self.new.book.device
             × (self.old.copying ≡ false → KeepsKeys (first_live (moment N.view self.old) (objects_in tally + 1)) (D.contents self.old.book.device) (D.contents self.new.book.device))) }
         ensures halts { N.still → IfErr result (λ fault. (tally : Tally) × Halts (moment N.view self.old) turn_size (moment N.view self.new) tally × (fault.so_far ≡ progress_of (plus (tally_of before) tally) false)) }
+
+        // refused for want of memory, or as the device failed
         ensures why { IfErr result (λ fault. (fault.why ≡ Memory) ⊎ (fault.why ≡ Failed)) }
         ensures follows { Follows D.contents D.honest D.faults D.fails_at_most no_key (fails result) self.old.book.device self.new.book.device }
     {

@@ -2,7 +2,7 @@
 
 ghost use Rattle.std.specs.Prelude.{◌≡◌, ◌+◌, ◌*◌, ◌<◌, ◌≤◌, ◌/◌, ℕ, true, false, IfSome, IfNone, IsSome};
 ghost use Rattle.far_word.specs.Scope.{scope_of};
-ghost use Rattle.far_core.specs.events.Look.{shows_clear};
+ghost use Rattle.far_events.specs.events.Look.{shows_clear};
 ghost use Rattle.far_hand.specs.Came.{Came, only};
 ghost use Rattle.far_evac.specs.Calls.{PollsOwners};
 ghost use Rattle.far_evac.specs.Waiting.{Looked, Looks, SawOpen, polled};

@@ -1,8 +1,8 @@
 //! What is true of every beset hand, as a contract. No function here does anything when it runs.
 
 ghost use Rattle.std.specs.Prelude.{◌≡◌, List, drop, length};
-ghost use Rattle.far_core.specs.declared.event.Event.{Event as any_event};
-ghost use Rattle.far_core.specs.declared.event.Reply.{Reply as any_reply};
+ghost use Rattle.far_events.specs.declared.event.Event.{Event as any_event};
+ghost use Rattle.far_events.specs.declared.event.Reply.{Reply as any_reply};
 ghost use Rattle.far_core.specs.state.CoreState.{core_state};
 ghost use Rattle.far_hand.specs.declared.beset.Beset.{Beset as any_hand};
 ghost use Rattle.far_hand.specs.BesetView.{TurnThen};

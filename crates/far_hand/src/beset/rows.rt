@@ -4,7 +4,7 @@ ghost use Rattle.std.specs.Prelude.{◌≡◌, ◌+◌, ◌*◌, ◌<◌, ℕ, f
 ghost use Rattle.std.specs.Vec.{vec_len};
 ghost use Rattle.far_word.specs.declared.sizes.TheConstants.{JOBS};
 ghost use Rattle.far_core.specs.state.CoreState.{core_state};
-ghost use Rattle.far_core.specs.state.State.{put};
+ghost use Rattle.far_events.specs.state.State.{put};
 ghost use Rattle.far_hand.specs.Masked.{word_at, is_counted, recounted};
 
 use far_core::Core;

@@ -1,7 +1,7 @@
 //! What owners and copiers do before a call.
 
 ghost use Rattle.std.specs.Prelude.{◌≡◌, true};
-ghost use Rattle.far_core.specs.events.Step.{step_of};
+ghost use Rattle.far_events.specs.events.Step.{step_of};
 ghost use Rattle.far_core.specs.state.CoreState.{core_state};
 ghost use Rattle.far_hand.specs.BesetView.{beset_view, next_event, passed, turned};
 ghost use Rattle.far_hand.specs.Makers.{is_others};

@@ -5,10 +5,10 @@ ghost use Rattle.far_word.specs.Sizes.{size_of};
 ghost use Rattle.far_word.specs.declared.pointer.Place.{Place};
 ghost use Rattle.far_word.specs.declared.refused.Refused.TheVariants.{NoPointer, NoRoom};
 ghost use Rattle.far_word.specs.declared.sizes.TheConstants.{CELLS, LONGEST};
-ghost use Rattle.far_core.specs.state.Law.{Law};
+ghost use Rattle.far_events.specs.state.Law.{Law};
 ghost use Rattle.far_core.specs.state.Room.{room};
-ghost use Rattle.far_core.specs.state.Shape.{is_shape};
-ghost use Rattle.far_core.specs.state.State.{State};
+ghost use Rattle.far_events.specs.state.Shape.{is_shape};
+ghost use Rattle.far_events.specs.state.State.{State};
 ghost use Rattle.far_hand.specs.Came.{Came};
 ghost use Rattle.far_hand.specs.MayBe.{NoneViews, ViewsNone};
 ghost use Rattle.far_hand.specs.ShapeOf.{shape_of};
@@ -79,18 +79,27 @@ pub(crate) fn place_new<N: Near + Drop, D: Device + Drop>(
     len: u16,
     ds: u8,
 ) -> Result<u16, Refused>
+    // one of the heap's owners, and a length that an object may have
     requires owner { owner < (N.view evac.old.book.near).mutators }
     requires some { 0 < len }
     requires most { len ≤ LONGEST }
+
+    // only calls of the hand led there
     ensures came { Came N.makes evac.old.book.near evac.new.book.near }
+
+    // done: the owner's lowest free pointer has a new object of zeros, where there was room for it
     ensures own { IfOk result (λ p. p / CELLS ≡ owner) }
     ensures lowest { IfOk result (λ p. IsLowestFree (N.view evac.old.book.near) owner (Some p)) }
     ensures room { IfOk result (λ p. IsSome (room (N.view evac.old.book.near) (size_of len) true)) }
     ensures placed { IfOk result (λ p. (place : Place) × PlacesObject N.still N.view N.makes evac.old.book evac.new.book p len ds (Ok place)) }
+
+    // refused exactly as none of its pointers is free, or as there is no room, and nothing has changed
     ensures refused { IfErr result (λ why. (why ≡ NoPointer) ⊎ (why ≡ NoRoom)) }
     ensures none { result ≡ Err NoPointer → NoneFree owner (N.view evac.old.book.near) }
     ensures full { result ≡ Err NoRoom → LacksRoom owner len (N.view evac.old.book.near) }
     ensures unchanged { IfErr result (λ _. evac.new ≡ evac.old) }
+
+    // the round stands where it stood
     ensures round { SameRound evac.old evac.new }
 {
     evac.keeps_law();

@@ -5,7 +5,7 @@ ghost use Rattle.far_word.specs.Sizes.{size_of};
 ghost use Rattle.far_word.specs.declared.pointer.PtrWord.{PtrWord};
 ghost use Rattle.far_word.specs.declared.refused.Refused.TheVariants.{Memory, NoPointer, NoRoom};
 ghost use Rattle.far_word.specs.declared.sizes.TheConstants.{CELLS, LONGEST};
-ghost use Rattle.far_core.specs.events.Naming.{is_dropped};
+ghost use Rattle.far_events.specs.events.Naming.{is_dropped};
 ghost use Rattle.far_core.specs.state.Room.{room};
 ghost use Rattle.far_hand.specs.Came.{Came};
 ghost use Rattle.far_table.specs.BookSeats.{seat_makes, seat_view};
@@ -58,14 +58,21 @@ impl<K: HeapName, D: Device + Drop> Evacuator<K, D> {
     // Places a new object of zeros for an owner's lowest free cell: its pointer. Refused NoPointer exactly where no cell is free, then NoRoom exactly where
     // there is no room; nothing has changed then.
     pub(crate) fn place_new(&mut self, owner: u8, len: u16, ds: u8) -> Result<u16, Refused>
+        // one of the heap's owners, and a length that an object may have
         requires one { owner < K.heap.mutators }
         requires some { 0 < len }
         requires most { len ≤ LONGEST }
+
+        // only calls of the hand led there
         ensures came { Came seat_makes self.old.book.near self.new.book.near }
+
+        // done: the owner's lowest free pointer has a new object of zeros, where there was room for it
         ensures own { IfOk result (λ p. p / CELLS ≡ owner) }
         ensures lowest { IfOk result (λ p. IsLowestFree (seat_view self.old.book.near) owner (Some p)) }
         ensures room { IfOk result (λ p. IsSome (room (seat_view self.old.book.near) (size_of len) true)) }
         ensures placed { IfOk result (λ p. PlacesNew self.old self.new p len ds) }
+
+        // refused exactly as none of its pointers is free, or as there is no room, and nothing has changed
         ensures refused { IfErr result (λ why. (why ≡ NoPointer) ⊎ (why ≡ NoRoom)) }
         ensures none { result ≡ Err NoPointer → NoneFree owner (seat_view self.old.book.near) }
         ensures full { result ≡ Err NoRoom → LacksRoom owner len (seat_view self.old.book.near) }

@@ -1,7 +1,7 @@
 //! The steps of a round.
 
 ghost use Rattle.std.specs.Prelude.{◌≡◌, ◌+◌, ℕ, true};
-ghost use Rattle.far_core.specs.state.State.{State};
+ghost use Rattle.far_events.specs.state.State.{State};
 ghost use Rattle.far_hand.specs.MayBe.{NoneViews, ViewsNone};
 ghost use Rattle.far_table.specs.BookSeats.{seat_makes, seat_may_be, seat_view};
 ghost use Rattle.far_evac.specs.Calls.{DealsWithObjects, GivesRoundUp, MakesTurn, MarksObjects, PollsOwners, SelectsLogs};

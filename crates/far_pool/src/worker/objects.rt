@@ -1,7 +1,7 @@
 //! A worker's objects by number: pointer p of heap k has the number 2,048 k + p. Who holds numbers keeps them itself: one whose object was
 //! dropped names the next object of its pointer.
 
-ghost use Rattle.std.specs.Prelude.{◌≡◌, ◌<◌, ◌+◌, ◌*◌, ℕ, None, Some, Err, IfErr, IfSome, OnOk, length, slice_range};
+ghost use Rattle.std.specs.Prelude.{◌≡◌, ◌<◌, ◌+◌, ◌*◌, ℕ, None, Some, Err, IfErr, IfSome, OnErr, OnOk, length, slice_range};
 ghost use Rattle.far_word.specs.declared.refused.Refused.{Refused as Refusal};
 ghost use Rattle.far_word.specs.declared.sizes.TheConstants.{POINTERS};
 ghost use Rattle.far_private.specs.Heap.{IsWell, IsWhyNoAccess, size_of};
@@ -75,6 +75,7 @@ impl<D: Device + Drop, M: MakeDevice<D> + Drop> Worker<D, M> {
         ensures done { OnOk result (refusal_of (held self.old number) from (length out.old) ≡ None) }
         ensures barred { (why : Refusal) → refusal_of (held self.old number) from (length out.old) ≡ Some why → result ≡ Err why }
         ensures why { IfErr result (λ why. IsWhyNoAccess self.old.honest (refusal_of (held self.old number) from (length out.old)) why) }
+        ensures kept { OnErr result (out.new ≡ out.old) }
     {
         self.parts.accesses = self.parts.accesses.wrapping_add(1);
         let at = (number / POINTERS as u32) as usize;

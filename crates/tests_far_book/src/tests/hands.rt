@@ -8,7 +8,7 @@ ghost use Rattle.far_word.specs.declared.pointer.PtrWord.TheVariants as near;
 ghost use Rattle.far_word.specs.declared.sizes.TheConstants.{CELLS};
 ghost use Rattle.far_word.specs.Pointer.{read_of};
 ghost use Rattle.far_core.specs.state.CoreState.{core_state};
-ghost use Rattle.far_core.specs.state.Opening.{opening};
+ghost use Rattle.far_events.specs.state.Opening.{opening};
 ghost use Rattle.far_hand.specs.BesetView.{beset_view};
 ghost use Rattle.far_hand.specs.Masked.{masked, word_at};
 

@@ -3,8 +3,8 @@
 ghost use Rattle.std.specs.Prelude.{◌≡◌, ◌≢◌, ◌*◌, ◌<◌, ℕ, true};
 ghost use Rattle.far_word.specs.declared.sizes.TheConstants.{CELLS};
 ghost use Rattle.far_word.specs.Pointer.{read_of};
-ghost use Rattle.far_core.specs.events.Advance.{is_among};
-ghost use Rattle.far_core.specs.state.Law.{HasEvac};
+ghost use Rattle.far_events.specs.events.Advance.{is_among};
+ghost use Rattle.far_events.specs.state.Law.{HasEvac};
 ghost use Rattle.far_hand.specs.Rounds.{MayChoose};
 
 use crate::tests::calls::marks;

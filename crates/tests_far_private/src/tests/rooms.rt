@@ -122,6 +122,10 @@ const UNUSED: &str = "bytes 0 8 9; many 1 4088; round 1 1; tell 4 2 1 0 1 0 0 8;
 // So does one that a write brought.
 const BROUGHT: &str = "fill 0 0 8 5; many 1 4088; round 64 1; tell 4 3 2 1 3 0 0 4096;";
 
+// So does one that an update brought.
+const BROUGHT_TO_CHANGE: &str =
+    "add 0 0 8 10 0 1; many 1 4088; round 64 1; tell 4 3 2 1 3 0 0 4096;";
+
 // What is written or updated where it lies was used.
 const WRITTEN: &str = "new 0 8; fill 0 0 8 5; many 1 4088; round 1 1; tell 4 2 0 0 0 0 0 0 1;";
 
@@ -183,6 +187,7 @@ const PLAYS: &[Play] = &[
     Play { name: "a_used_object_moves", parts: &[MOVED], ..FOUR_LOGS },
     Play { name: "a_call_moves_what_is_used", parts: &[KEPT_IN_USE], ..FOUR_LOGS },
     Play { name: "an_unused_object_leaves", parts: &[UNUSED, BROUGHT], ..FOUR_LOGS },
+    Play { name: "so_does_one_that_an_update_brought", parts: &[UNUSED, BROUGHT_TO_CHANGE], ..FOUR_LOGS },
     Play { name: "bytes_of_logs_are_told", parts: &[DEAD], ..FOUR_LOGS },
     Play { name: "a_written_object_moves", parts: &[WRITTEN], ..FOUR_LOGS },
     Play { name: "an_updated_object_moves", parts: &[CHANGED], ..FOUR_LOGS },

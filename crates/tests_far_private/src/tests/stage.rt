@@ -343,12 +343,12 @@ impl<D: Device + Drop> Stage<D> {
     }
 }
 
-// Whether bytes are as a call leaves them that says so: a row where it is done, and else what they were before an update.
+// Whether bytes are as a call leaves them that says so: a row where it is done, and else what they were before a read or an update.
 fn is_left(verb: u8, said: u8, bytes: &[u8], first: u8, step: u8) -> bool {
     if said == 0 {
         is_row(bytes, first, step)
     } else {
-        verb != b'a' || is_row(bytes, OTHER, 0)
+        verb == b'f' || is_row(bytes, OTHER, 0)
     }
 }
 

@@ -3,8 +3,8 @@
 
 ghost use Rattle.std.specs.Prelude.{◌≡◌, ◌*◌, ◌<◌};
 ghost use Rattle.far_word.specs.Pointer.{read_of};
-ghost use Rattle.far_core.specs.events.Ask.{is_request};
-ghost use Rattle.far_core.specs.events.Owners.{keeps_padding};
+ghost use Rattle.far_events.specs.events.Ask.{is_request};
+ghost use Rattle.far_events.specs.events.Owners.{keeps_padding};
 ghost use Rattle.far_core.specs.state.CoreState.{core_state};
 ghost use Rattle.far_table.specs.Views.{said_len};
 ghost use Rattle.tests_far_table.specs.Fits.{Fits, Ready, known_of, used_len};

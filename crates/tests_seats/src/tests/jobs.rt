@@ -5,10 +5,10 @@ ghost use Rattle.far_word.specs.Header.{IsHead, head_word};
 ghost use Rattle.far_word.specs.Job.{IsJob, job_of};
 ghost use Rattle.far_word.specs.Sizes.{size_of, words_for};
 ghost use Rattle.far_word.specs.declared.sizes.TheConstants.{CELLS, LOG_WORDS};
-ghost use Rattle.far_core.specs.events.Collect.{is_loose};
-ghost use Rattle.far_core.specs.events.Copies.{data_at};
-ghost use Rattle.far_core.specs.events.Legal.{IsNext};
-ghost use Rattle.far_core.specs.state.State.{addr};
+ghost use Rattle.far_events.specs.events.Collect.{is_loose};
+ghost use Rattle.far_events.specs.events.Copies.{data_at};
+ghost use Rattle.far_events.specs.events.Legal.{IsNext};
+ghost use Rattle.far_events.specs.state.State.{addr};
 ghost use Rattle.far_hand.specs.Quiet.{IsQuietAt};
 ghost use Rattle.tests_seats.specs.Offers.{HasRoom, HasRound, IsLeft, IsMarked, IsMoved, IsRoom, KnowsJobs, KnowsRoom};
 
@@ -112,13 +112,18 @@ fn blank<N: Near>(near: &mut N, head: HeadWord, to: Place)
 
 /// Copies the only data word of a quiet object to the place of a new span in another log, behind a header.
 fn copy_one<N: Near>(near: &mut N, head: HeadWord, from: Place, to: Place)
+    // the header is on the layout, the object is quiet, and its header and word lie within a log
     requires head { IsHead head }
     requires quiet { IsQuietAt (N.view near.old) (addr from + 1) }
     requires from { (from.log < (N.view near.old).logs) × (from.at + 2 ≤ LOG_WORDS) }
+
+    // the place is where another log's next span may stand, with room for both
     requires next { IsNext (N.view near.old) to }
     requires past { (N.view near.old).tail to.log ≤ to.at }
     requires end { to.at + 2 ≤ LOG_WORDS }
     requires other { to.log ≢ from.log }
+
+    // nothing but words has changed: the place has the header, and behind it the object's word, which is known
     ensures kept { N.view near.new ≡ record (N.view near.old) { word = (N.view near.new).word } }
     ensures head { (N.view near.new).word (addr to) ≡ head_word head.pointer head.len head.ds }
     ensures same { (N.view near.new).word (addr to + 1) ≡ (N.view near.new).word (addr from + 1) }

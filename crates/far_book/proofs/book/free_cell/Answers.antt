@@ -3,9 +3,9 @@ use Rattle.std.proofs.Common.{◌∙◌, ◌*◌, ◌<◌, ◌^◌, ap, sym, sub
 use Rattle.far_word.specs.declared.sizes.TheConstants.{CELLS}
 use Rattle.far_word.specs.Pointer.{read_of}
 use Rattle.far_word.proofs.PointerLaws.{word_fits}
-use Rattle.far_core.specs.declared.event.Event.TheVariants.{Name}
-use Rattle.far_core.specs.events.Step.{after}
-use Rattle.far_core.specs.state.State.{State, put}
+use Rattle.far_events.specs.declared.event.Event.TheVariants.{Name}
+use Rattle.far_events.specs.events.Step.{after}
+use Rattle.far_events.specs.state.State.{State, put}
 use Rattle.far_hand.proofs.Finding.{finds_more}
 use Rattle.far_book.proofs.region.Calls.{after_is, dropped_counts, still_dropped, put_put, count_more, some_dropped}
 use Rattle.far_book.proofs.region.Founds.{drop_found}

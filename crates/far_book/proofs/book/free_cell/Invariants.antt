@@ -1,6 +1,6 @@
 use Rattle.std.proofs.Common.{◌≡◌, ◌+◌, ◌≤◌, Some}
 use Rattle.far_word.specs.Pointer.{IsPtr, read_of, word_of}
-use Rattle.far_core.specs.state.State.{put}
+use Rattle.far_events.specs.state.State.{put}
 use Rattle.far_hand.specs.Came.{Came}
 use Rattle.far_hand.specs.Finds.{Finds}
 use Rattle.far_book.proofs.region.Calls.{count}

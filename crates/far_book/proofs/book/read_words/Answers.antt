@@ -2,7 +2,7 @@ use Rattle.far_book.proofs.book.read_words.Goals as goal
 use Rattle.std.proofs.Common.{◌∙◌, ◌+◌, ◌*◌, ◌<◌, ap, sym, subst, arith, refl, inl, inr, length-set}
 use Rattle.std.proofs.lemmas.Bool.{cases_eq}
 use Rattle.far_word.specs.declared.sizes.TheConstants.{LOG_WORDS}
-use Rattle.far_core.specs.state.State.{State}
+use Rattle.far_events.specs.state.State.{State}
 use Rattle.far_book.proofs.region.Readings.{read_at, read_more, still_known}
 use Rattle.far_hand.proofs.Closure.{then_call}
 

@@ -3,9 +3,9 @@ use Rattle.far_word.specs.Header.{head_of}
 use Rattle.far_word.specs.Job.{job_of}
 use Rattle.far_word.specs.Pointer.{read_of}
 use Rattle.far_log.specs.Spans.{spans_in}
-use Rattle.far_core.specs.state.Opening.{no_copying}
-use Rattle.far_core.specs.state.Spans.{spans_of}
-use Rattle.far_core.proofs.Put.{put_same}
+use Rattle.far_events.specs.state.Opening.{no_copying}
+use Rattle.far_events.specs.state.Spans.{spans_of}
+use Rattle.far_events.proofs.Put.{put_same}
 use Rattle.far_book.proofs.laws.jobs_are_so.Goals as goal
 
 -- the worked examples, computed

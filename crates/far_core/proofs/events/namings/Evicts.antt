@@ -11,22 +11,22 @@ use Rattle.far_word.specs.Bytes.{bytes_of}
 use Rattle.far_word.specs.Pointer.{read_of}
 use Rattle.far_word.specs.Sizes.{words_for}
 use Rattle.far_word.proofs.ByteLaws.{bytes_of-same}
-use Rattle.far_core.specs.declared.naming.Naming.TheVariants.{Evicts}
-use Rattle.far_core.specs.events.Naming.{no_marks}
-use Rattle.far_core.specs.events.namings.Evicts.{with_kept, evicts_row}
-use Rattle.far_core.specs.events.Touch.{CellAt, BookView, Touches}
-use Rattle.far_core.specs.state.Law.{Law, NamesBack, StoresBack, IsBlank, IsClean, held_place, in_use, head_len, is_dirty}
-use Rattle.far_core.specs.state.State.{State, put, addr}
+use Rattle.far_events.specs.declared.naming.Naming.TheVariants.{Evicts}
+use Rattle.far_events.specs.events.Naming.{no_marks}
+use Rattle.far_events.specs.events.namings.Evicts.{with_kept, evicts_row}
+use Rattle.far_events.specs.events.Touch.{CellAt, BookView, Touches}
+use Rattle.far_events.specs.state.Law.{Law, NamesBack, StoresBack, IsBlank, IsClean, held_place, in_use, head_len, is_dirty}
+use Rattle.far_events.specs.state.State.{State, put, addr}
 use Rattle.far_core.specs.world.Steps.{GoesFar}
 use Rattle.far_core.specs.world.World.{Object, Group, FarSide}
 use Rattle.far_core.specs.world.WorldOf.{world_of, object_of, is_marked}
-use Rattle.far_core.proofs.Bounds.{span_len}
+use Rattle.far_events.proofs.Bounds.{span_len}
 use Rattle.far_core.proofs.Frames.{rounds_with_cell}
-use Rattle.far_core.specs.state.Jobs.{near_place}
+use Rattle.far_events.specs.state.Jobs.{near_place}
 use Rattle.far_core.proofs.KeepJobs.{copies_with_cell}
 use Rattle.far_core.proofs.NamingOwed.{NamingOwed}
-use Rattle.far_core.proofs.Put.{put_both, put_two, put_same, put_other}
-use Rattle.far_core.proofs.Quieting.{quiet_fact, quiet_test, quiet_unheld}
+use Rattle.far_events.proofs.Put.{put_both, put_two, put_same, put_other}
+use Rattle.far_events.proofs.Quieting.{quiet_unheld}
 use Rattle.far_core.proofs.Touching.{same_copier, one_cell}
 use Rattle.far_core.proofs.Worlds.{World-ext}
 
@@ -154,8 +154,6 @@ module _ (p new len : ℕ) (place : Place) where
 
   pub evicts_owed : NamingOwed p new (Evicts len place)
   evicts_owed = record {
-    fact = λ s h. quiet_fact s p h;
-    test = λ s h. quiet_test s p h;
     keeps = λ s made. let n = made.naming in keeps_evict s made.law p new len n.0 place n.1 made.fits made.cell n.2 n.3 n.5 (quiet_unheld s made.law p made.legal);
     does = λ s made. let n = made.naming in evict_goes s made.law p new len n.0 place n.1 made.fits made.cell n.2 n.3 n.5 (quiet_unheld s made.law p made.legal);
     within = touch_evict;

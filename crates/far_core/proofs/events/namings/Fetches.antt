@@ -1,29 +1,24 @@
 -- What the form of naming Fetches owes.
-use Rattle.std.proofs.Common.{◌≡◌, ℕ, ◌/◌, Bool, true, false, arith, cond, refl, sym, ap, ◌∙◌, List, Option, Some, None}
-use Rattle.std.specs.Prelude.{is_some, not, ◌||◌}
-use Rattle.std.proofs.lemmas.Bool.{eq-eqb, false≢true}
-use Rattle.std.proofs.lemmas.Bool.Decides.{nat_tests}
+use Rattle.std.proofs.Common.{◌≡◌, ℕ, ◌/◌, false, cond, refl, sym, ap, ◌∙◌, List, Option, Some, None}
+use Rattle.std.specs.Prelude.{is_some}
 use Rattle.far_word.specs.declared.mark.Marks.{Marks}
 use Rattle.far_word.specs.declared.pointer.Place.{Place}
 use Rattle.far_word.specs.declared.pointer.PtrWord.TheVariants.{Far}
 use Rattle.far_word.specs.declared.sizes.TheConstants.{CELLS}
 use Rattle.far_word.specs.Bytes.{bytes_of}
 use Rattle.far_word.specs.Pointer.{read_of}
-use Rattle.far_word.specs.Sizes.{words_for}
 use Rattle.far_word.proofs.ByteLaws.{bytes_of-same, bytes_of-small, length-bytes_of}
-use Rattle.far_core.specs.declared.naming.Naming.TheVariants.{Fetches}
-use Rattle.far_core.specs.events.Copies.{data_at, ends_padded}
-use Rattle.far_core.specs.events.namings.Fetches.{MayFetch, IsStoredAt, is_stored_at, words_stored}
-use Rattle.far_core.specs.events.NewSpans.{is_new_span, with_span}
-use Rattle.far_core.specs.state.Law.{Law, held_place}
-use Rattle.far_core.specs.state.State.{State}
+use Rattle.far_events.specs.declared.naming.Naming.TheVariants.{Fetches}
+use Rattle.far_events.specs.events.Copies.{data_at}
+use Rattle.far_events.specs.events.NewSpans.{with_span}
+use Rattle.far_events.specs.state.Law.{Law, held_place}
+use Rattle.far_events.specs.state.State.{State}
 use Rattle.far_core.specs.world.Steps as world
 use Rattle.far_core.specs.world.World.{Object, FarSide}
 use Rattle.far_core.specs.world.WorldOf.{world_of, object_of}
-use Rattle.far_core.proofs.Copies.{alike_fact, alike_test}
 use Rattle.far_core.proofs.NamingOwed.{IsMade, NamingOwed}
-use Rattle.far_core.proofs.NewSpans.{new_span_fact, new_span_test, takes_span, touch_span}
-use Rattle.far_core.proofs.Put.{put_same}
+use Rattle.far_core.proofs.NewSpans.{takes_span, touch_span}
+use Rattle.far_events.proofs.Put.{put_same}
 use Rattle.far_core.proofs.TakingSpans.{clean_at, keeps_new_span, span_world}
 
 -- what is far is held by nobody
@@ -31,29 +26,7 @@ far_unheld : (s : State) → Law s → (p len ds : ℕ) (m : Marks) → read_of 
 far_unheld s law p len ds m far None e = refl
 far_unheld s law p len ds m far (Some place) e = let odd : None ≡ Some place = sym (ap held_place far) ∙ law.views.held_names p place e in absurd cc
 
--- ---- the test on stored words
-stored_fact : (s : State) (p len : ℕ) (place : Place) → is_stored_at s p len place ≡ true → IsStoredAt s p len place
-stored_fact s p len place h = record { all = grind (arith, nat_tests); same = alike_fact _ _ (words_for len) (grind (arith, nat_tests)) }
-
-stored_test : (s : State) (p len : ℕ) (place : Place) → IsStoredAt s p len place → is_stored_at s p len place ≡ true
-stored_test s p len place h = rw (eq-eqb (words_stored (read_of (s.cell p))) (words_for len) h.all, alike_test _ _ (words_for len) h.same) refl
-
-where_honest : (b x : Bool) → (not b || x) ≡ true → b ≡ true → x ≡ true
-where_honest true x h e = h
-where_honest false x h e = absurd (false≢true e)
-
-honest_test : (b x : Bool) → (b ≡ true → x ≡ true) → (not b || x) ≡ true
-honest_test true x h = h refl
-honest_test false x h = refl
-
 module _ (p new len ds : ℕ) (place : Place) where
-  fetch_fact : (s : State) → is_new_span s p len ds place ≡ true → ends_padded s.word len place ≡ true → (not s.honest || is_stored_at s p len place) ≡ true → MayFetch s p len ds place
-  fetch_fact s a b c = record {
-    span = new_span_fact s p len ds place a;
-    padded = grind (arith, nat_tests);
-    stored = λ honest. stored_fact s p len place (where_honest s.honest _ c honest);
-  }
-
   module _ (s : State) (made : IsMade s p new (Fetches len ds place)) where
     abbrev marks : Marks
     marks = made.naming.0.0
@@ -97,10 +70,6 @@ module _ (p new len ds : ℕ) (place : Place) where
 
   pub fetches_owed : NamingOwed p new (Fetches len ds place)
   fetches_owed = record {
-    fact = λ s h. fetch_fact s (grind (arith, nat_tests)) (grind (arith, nat_tests)) (grind (arith, nat_tests));
-    test = λ s h.
-        let padded : ends_padded s.word len place ≡ true = (let x = h.padded in grind (arith, nat_tests)) in
-        rw (new_span_test s p len ds place h.span, padded) (honest_test s.honest _ (λ honest. stored_test s p len place (h.stored honest)));
     keeps = λ s made. keeps_fetch s made;
     does = λ s made. do_fetch s made;
     within = λ s. touch_span s p new len place;

@@ -1,8 +1,7 @@
 -- What the form of naming Moves owes.
-use Rattle.std.proofs.Common.{◌≡◌, ℕ, ◌/◌, ◌<◌, nat_lt, Bool, true, false, arith, cond, inl, inr, refl, sym, ap, ◌∙◌, Option, Some, None}
-use Rattle.std.specs.Prelude.{◌⊎◌, ◌||◌, is_some}
+use Rattle.std.proofs.Common.{◌≡◌, ℕ, ◌/◌, true, false, cond, inl, inr, refl, sym, ap, ◌∙◌, Option, Some, None}
+use Rattle.std.specs.Prelude.{is_some}
 use Rattle.std.proofs.lemmas.Bool.{false≢true}
-use Rattle.std.proofs.lemmas.Bool.Decides.{nat_tests}
 use Rattle.far_word.specs.declared.mark.Marks.{Marks}
 use Rattle.far_word.specs.declared.pointer.Place.{Place}
 use Rattle.far_word.specs.declared.pointer.PtrWord.TheVariants.{Near}
@@ -11,60 +10,28 @@ use Rattle.far_word.specs.Bytes.{bytes_of}
 use Rattle.far_word.specs.Pointer.{read_of}
 use Rattle.far_word.specs.Sizes.{words_for}
 use Rattle.far_word.proofs.ByteLaws.{bytes_of-same}
-use Rattle.far_core.specs.declared.naming.Naming.TheVariants.{Moves}
-use Rattle.far_core.specs.events.Copies.{Alike, alike, data_at, ends_padded}
-use Rattle.far_core.specs.events.Copied.{WasCopied, IsCopied, copied_job, with_named}
-use Rattle.far_core.specs.events.Touch.{CellAt, BookView, Touches}
-use Rattle.far_core.specs.events.namings.Moves.{MayMove, MoveReports, after_move, may_move}
-use Rattle.far_core.specs.events.NewSpans.{is_new_span, with_span}
-use Rattle.far_core.specs.events.Quiet.{is_quiet_cell}
-use Rattle.far_core.specs.state.Law.{Law}
-use Rattle.far_core.specs.state.State.{State}
+use Rattle.far_events.specs.declared.naming.Naming.TheVariants.{Moves}
+use Rattle.far_events.specs.events.Copies.{Alike, data_at}
+use Rattle.far_events.specs.events.Copied.{IsCopied, copied_job, with_named}
+use Rattle.far_events.specs.events.Touch.{CellAt, BookView, Touches}
+use Rattle.far_events.specs.events.namings.Moves.{MayMove, MoveReports, after_move}
+use Rattle.far_events.specs.events.NewSpans.{with_span}
+use Rattle.far_events.specs.state.Law.{Law}
+use Rattle.far_events.specs.state.State.{State}
 use Rattle.far_core.specs.world.Steps as world
 use Rattle.far_core.specs.world.World.{Object, Group}
 use Rattle.far_core.specs.world.WorldOf.{world_of, object_of}
-use Rattle.far_core.proofs.Copies.{alike_fact, alike_test}
 use Rattle.far_core.proofs.Copied as copied
-use Rattle.far_core.proofs.Copied.{copied_fact, copied_test, keeps_named}
+use Rattle.far_events.proofs.Copied.{copied_fact, copied_test}
+use Rattle.far_core.proofs.Copied.{keeps_named}
 use Rattle.far_core.proofs.Touching.{one_cell}
-use Rattle.far_core.proofs.events.Look.{or_right}
 use Rattle.far_core.proofs.NamingOwed.{IsMade, NamingOwed}
-use Rattle.far_core.proofs.NewSpans.{new_span_fact, new_span_test, takes_span, touch_span}
-use Rattle.far_core.proofs.Put.{put_other, put_same}
-use Rattle.far_core.proofs.Quieting.{quiet_fact, quiet_test, quiet_unheld}
+use Rattle.far_core.proofs.NewSpans.{takes_span, touch_span}
+use Rattle.far_events.proofs.Put.{put_other, put_same}
+use Rattle.far_events.proofs.Quieting.{quiet_unheld}
 use Rattle.far_core.proofs.TakingSpans.{clean_at, named_world, keeps_new_span, span_world}
 
 module _ (p new len ds : ℕ) (from to : Place) where
-  move_fact : (s : State) → (is_new_span s p len ds to ≡ true) → ends_padded s.word len to ≡ true → is_quiet_cell s p (read_of (s.cell p)) ≡ true → nat_lt from.log s.logs ≡ true →
-      alike (data_at s.word to) (data_at s.word from) (words_for len) ≡ true → MayMove s p len ds from to
-  move_fact s a b c d e = record {
-    span = new_span_fact s p len ds to a;
-    padded = grind (arith, nat_tests);
-    quiet = quiet_fact s p c;
-    log = grind (arith, nat_tests);
-    same = alike_fact _ _ (words_for len) e;
-  }
-
-  may_fact : (s : State) → may_move s p len ds from to ≡ true → MayMove s p len ds from to
-  may_fact s h = move_fact s (grind (arith, nat_tests)) (grind (arith, nat_tests)) (grind (arith, nat_tests)) (grind (arith, nat_tests)) (grind (arith, nat_tests))
-
-  may_test : (s : State) → MayMove s p len ds from to → may_move s p len ds from to ≡ true
-  may_test s h =
-      let low : from.log < s.logs = h.log in
-      let a : nat_lt from.log s.logs ≡ true = grind (arith, nat_tests) in
-      let padded : ends_padded s.word len to ≡ true = (let x = h.padded in grind (arith, nat_tests)) in
-      rw (new_span_test s p len ds to h.span, padded, quiet_test s p h.quiet, a, alike_test _ _ (words_for len) h.same) refl
-
-  move_or_copy : (s : State) → (may_move s p len ds from to || is_some (copied_job s p from to)) ≡ true → MayMove s p len ds from to ⊎ WasCopied s p from to
-  move_or_copy s h = at_move (may_move s p len ds from to) refl h where
-    at_copy : (o : Option ℕ) → copied_job s p from to ≡ o → is_some o ≡ true → WasCopied s p from to
-    at_copy None e h = absurd (false≢true h)
-    at_copy (Some j) e h = let x = copied_fact s p from to j e in (j, x.0, x.1)
-
-    at_move : (b : Bool) → may_move s p len ds from to ≡ b → (b || is_some (copied_job s p from to)) ≡ true → MayMove s p len ds from to ⊎ WasCopied s p from to
-    at_move true e h = inl (may_fact s e)
-    at_move false e h = inr (at_copy (copied_job s p from to) refl h)
-
   module _ (s : State) (made : IsMade s p new (Moves len ds from to)) where
     abbrev marks : Marks
     marks = made.naming.0.0
@@ -158,11 +125,6 @@ module _ (p new len ds : ℕ) (from to : Place) where
 
   pub moves_owed : NamingOwed p new (Moves len ds from to)
   moves_owed = record {
-    fact = λ s h. move_or_copy s h;
-    test = λ s h. elim h [
-      | inl legal ↦ rw (may_test s legal) refl
-      | inr has ↦ or_right (may_move s p len ds from to) _ (copied_test s p from to has)
-    ];
     keeps = λ s made. keeps_either s made (copied_job s p from to) refl;
     does = λ s made. does_either s made (copied_job s p from to) refl;
     within = λ s. touch_either s (copied_job s p from to);

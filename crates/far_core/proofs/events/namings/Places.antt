@@ -2,7 +2,6 @@
 use Rattle.std.proofs.Common.{◌≢◌, ◌≡◌, ℕ, ◌+◌, ◌-◌, ◌/◌, ◌<◌, ◌≤◌, true, arith, refl, sym, ap, ◌∙◌, Option, Some, None}
 use Rattle.std.specs.Prelude.{replicate}
 use Rattle.std.proofs.lemmas.Bool.{false≢true, true≢false}
-use Rattle.std.proofs.lemmas.Bool.Decides.{nat_tests}
 use Rattle.std.proofs.lemmas.Nat.{pow_pos}
 use Rattle.far_word.specs.declared.pointer.Place.{Place}
 use Rattle.far_word.specs.declared.pointer.PtrWord.TheVariants.{Free, Near}
@@ -11,19 +10,18 @@ use Rattle.far_word.specs.Pointer.{read_of}
 use Rattle.far_word.specs.Sizes.{words_for}
 use Rattle.far_word.proofs.ByteLaws.{bytes_of-zeros}
 use Rattle.far_word.proofs.PointerLaws.{read_says}
-use Rattle.far_core.specs.declared.naming.Naming.TheVariants.{Places}
-use Rattle.far_core.specs.events.Naming.{unmarked}
-use Rattle.far_core.specs.events.NewSpans.{with_span}
-use Rattle.far_core.specs.state.Law.{Law, Blank, in_use}
-use Rattle.far_core.specs.state.State.{State, addr}
+use Rattle.far_events.specs.declared.naming.Naming.TheVariants.{Places}
+use Rattle.far_events.specs.events.Naming.{unmarked}
+use Rattle.far_events.specs.events.NewSpans.{with_span}
+use Rattle.far_events.specs.state.Law.{Law, Blank, in_use}
+use Rattle.far_events.specs.state.State.{State, addr}
 use Rattle.far_core.specs.world.Steps.{Makes}
 use Rattle.far_core.specs.world.World.{Object, Group}
 use Rattle.far_core.specs.world.WorldOf.{world_of, object_of}
 use Rattle.far_core.proofs.NamingOwed.{IsMade, NamingOwed}
-use Rattle.far_core.proofs.NewSpans.{new_span_fact, new_span_test, takes_span, touch_span}
-use Rattle.far_core.proofs.Put.{put_same}
+use Rattle.far_core.proofs.NewSpans.{takes_span, touch_span}
+use Rattle.far_events.proofs.Put.{put_same}
 use Rattle.far_core.proofs.TakingSpans.{clean_at, keeps_new_span, span_world}
-use Rattle.far_core.proofs.Zeros.{zeros_all, zeros_below}
 
 -- a free cell is held by nobody, and no owner uses it
 none_held : (s : State) → Law s → (p : ℕ) → s.used p ≢ true → (o : Option Place) → s.held p ≡ o → s.held p ≡ None
@@ -56,11 +54,6 @@ module _ (p new len ds : ℕ) (place : Place) where
 
   pub places_owed : NamingOwed p new (Places len ds place)
   places_owed = record {
-    fact = λ s h. (
-      new_span_fact s p len ds place (grind (arith, nat_tests)),
-      λ i lt. zeros_below s.word (addr place + 1) (words_for len) i (grind (arith, nat_tests)) lt,
-    );
-    test = λ s h. rw (new_span_test s p len ds place h.0, zeros_all s.word (addr place + 1) (words_for len) h.1) refl;
     keeps = λ s made. keeps_place s made;
     does = λ s made.
         let x = read_says new (Near len ds place (unmarked true)) made.fits made.naming.1 in

@@ -7,16 +7,16 @@ use Rattle.far_word.specs.declared.pointer.PtrWord.{PtrWord}
 use Rattle.far_word.specs.declared.pointer.PtrWord.TheVariants.{Free, Near, Far}
 use Rattle.far_word.specs.declared.sizes.TheConstants.{CELLS}
 use Rattle.far_word.specs.Pointer.{read_of}
-use Rattle.far_core.specs.declared.naming.Naming.TheVariants.{Retires}
-use Rattle.far_core.specs.events.Naming.{is_dropped}
-use Rattle.far_core.specs.state.Law.{Law, NamesBack, StoresBack, IsBlank, IsClean, held_place, in_use, is_dirty}
-use Rattle.far_core.specs.state.State.{State, put}
+use Rattle.far_events.specs.declared.naming.Naming.TheVariants.{Retires}
+use Rattle.far_events.specs.events.Naming.{is_dropped}
+use Rattle.far_events.specs.state.Law.{Law, NamesBack, StoresBack, IsBlank, IsClean, held_place, in_use, is_dirty}
+use Rattle.far_events.specs.state.State.{State, put}
 use Rattle.far_core.specs.world.WorldOf.{world_of, object_of, is_marked}
 use Rattle.far_core.proofs.Frames.{rounds_with_cell}
-use Rattle.far_core.specs.state.Jobs.{near_place}
+use Rattle.far_events.specs.state.Jobs.{near_place}
 use Rattle.far_core.proofs.KeepJobs.{copies_with_cell}
 use Rattle.far_core.proofs.NamingOwed.{NamingOwed}
-use Rattle.far_core.proofs.Put.{put_both, put_same}
+use Rattle.far_events.proofs.Put.{put_both, put_same}
 use Rattle.far_core.proofs.Touching.{one_cell, touched}
 use Rattle.far_core.proofs.Worlds.{World-ext}
 
@@ -99,8 +99,6 @@ module _ (s : State) (law : Law s) (p new : ℕ) (fits : new < 2 ^ 64) (cell : p
 module _ (p new : ℕ) where
   pub retires_owed : NamingOwed p new Retires
   retires_owed = record {
-    fact = λ s h. tt;
-    test = λ s h. refl;
     keeps = λ s made. keeps_retire s made.law p new made.fits made.cell made.naming.0 made.naming.1;
     does = λ s made. retire_stays s made.law p new made.fits made.cell made.naming.0 made.naming.1;
     within = λ s. touched (one_cell s.epoch s.scope s.cell s.word s.copying.word p new) (λ k a b. refl) (λ q a. refl) (λ q a b. refl);

@@ -5,19 +5,19 @@ use Rattle.far_word.specs.declared.mark.Marks.{Marks}
 use Rattle.far_word.specs.declared.pointer.Place.{Place}
 use Rattle.far_word.specs.declared.pointer.PtrWord.TheVariants.{Free, Near}
 use Rattle.far_word.specs.Pointer.{read_of}
-use Rattle.far_core.specs.declared.naming.Naming.TheVariants.{Stays}
-use Rattle.far_core.specs.events.Naming.{unmarked}
-use Rattle.far_core.specs.state.Law.{Law, HasEvac, in_use}
-use Rattle.far_core.specs.state.State.{State, put}
+use Rattle.far_events.specs.declared.naming.Naming.TheVariants.{Stays}
+use Rattle.far_events.specs.events.Naming.{unmarked}
+use Rattle.far_events.specs.state.Law.{Law, HasEvac, in_use}
+use Rattle.far_events.specs.state.State.{State, put}
 use Rattle.far_core.specs.world.Steps as world
 use Rattle.far_core.specs.world.WorldOf.{world_of, object_of}
-use Rattle.far_core.proofs.Cells.{Remarked, unused}
+use Rattle.far_events.proofs.Cells.{Remarked, unused}
 use Rattle.far_core.proofs.Frames.{law_with_cell_marks}
 use Rattle.far_core.proofs.Marking.{unmarks_world}
 use Rattle.far_core.proofs.NamingOwed.{IsMade, NamingOwed}
-use Rattle.far_core.proofs.Put.{put_same}
-use Rattle.far_core.proofs.Quieting.{quiet_unheld}
-use Rattle.far_core.specs.events.Quiet.{has_move}
+use Rattle.far_events.proofs.Put.{put_same}
+use Rattle.far_events.proofs.Quieting.{quiet_unheld}
+use Rattle.far_events.specs.events.Quiet.{has_move}
 use Rattle.far_core.proofs.Touching.{one_cell, touched}
 
 module _ (s : State) (p new len ds : ℕ) (place : Place) (m : Marks) (made : IsMade s p new Stays)
@@ -51,8 +51,6 @@ module _ (s : State) (p new len ds : ℕ) (place : Place) (m : Marks) (made : Is
 module _ (p new : ℕ) where
   pub stays_owed : NamingOwed p new Stays
   stays_owed = record {
-    fact = λ s h. tt;
-    test = λ s h. refl;
     keeps = λ s made. let n = made.naming in keeps_stay s p new n.0 n.1 n.2 n.3 made n.4 n.5 n.6 n.7 n.8;
     does = λ s made. let n = made.naming in stay_unmarks s p new n.0 n.1 n.2 n.3 made n.4 n.5 n.6 n.7 n.8;
     within = λ s. touched (one_cell s.epoch s.scope s.cell s.word s.copying.word p new) (λ k a b. refl) (λ q a. refl) (λ q a b. refl);

@@ -3,7 +3,7 @@ use Rattle.far_word.specs.Header.{head_of}
 use Rattle.far_word.specs.Job.{job_of}
 use Rattle.far_word.specs.Pointer.{read_of}
 use Rattle.far_log.specs.Spans.{spans_in}
-use Rattle.far_core.specs.state.Spans.{spans_of}
+use Rattle.far_events.specs.state.Spans.{spans_of}
 use Rattle.far_evac.specs.Live.{live_in}
 use Rattle.far_evac.specs.Turns.{turn_size}
 use Rattle.far_evac.proofs.laws.copies_are_so.Goals as goal

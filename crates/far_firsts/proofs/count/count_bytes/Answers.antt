@@ -1,5 +1,5 @@
 use Rattle.std.proofs.Common.{◌+◌, Bool, List, ℕ, length, take, drop, ◌++◌, refl, sym, ◌∙◌, subst, arith}
-use Rattle.std.specs.FinSet as set
+use Rattle.far_firsts.specs.Tallying.{no_set}
 use Rattle.std.proofs.lemmas.List.{take_rest}
 use Rattle.far_firsts.specs.Causes.{IsWhyNext, Refuses}
 use Rattle.far_firsts.specs.Lines.{IsPlain}
@@ -33,7 +33,7 @@ returns-in-Err-clause-stopped g c =
     let refuses = Refuses g.O.Objects.unmade g.O.Objects.unreached in
     eaten_stops c.args.longest (refuses c.args.tally.now.honest) c.args.tally.now.honest c.args.end c.args.bytes.now c.args.midst.now.part.items c.args.midst.now.count c.loop-i.midst.part.items c.loop-i.midst.count
     c.count_end.new.midst.count c.args.tally.now.lines c.loop-i.tally.lines rest c.in-Err.why c.loop-i.invariant.so c.in-Err.ensures.same
-    (end_halts c.args.longest (refuses c.args.tally.now.honest) c.args.end set.empty c.loop-i.midst.part.items piece c.loop-i.midst.count c.loop-i.invariant.plain
+    (end_halts c.args.longest (refuses c.args.tally.now.honest) c.args.end no_set c.loop-i.midst.part.items piece c.loop-i.midst.count c.loop-i.invariant.plain
     (plain_to c.args.end rest c.in-Some.i (omega (arith, c.in-Some.ensures.0.high)) c.in-Some.ensures.0.before)
     rest (drop (c.in-Some.i + 1) rest) c.in-Err.why (cut_at c.args.end c.in-Some.i rest c.in-Some.ensures.0.high c.in-Some.ensures.1)
     (subst (λ (t : Bool). IsWhyNext c.args.longest (refuses t) c.loop-i.midst.count (length (c.loop-i.midst.part.items ++ piece)) c.in-Err.why) c.loop-i.invariant.honest c.in-Err.ensures.why))
@@ -47,5 +47,5 @@ returns-in-Err-keep-clause-stopped g c =
     let refuses = Refuses g.O.Objects.unmade g.O.Objects.unreached c.args.tally.now.honest in
     eaten_stops c.args.longest refuses c.args.tally.now.honest c.args.end c.args.bytes.now c.args.midst.now.part.items c.args.midst.now.count c.loop-i.midst.part.items c.loop-i.midst.count
     c.loop-i.midst.count c.args.tally.now.lines c.loop-i.tally.lines c.loop-i.rest.now _ c.loop-i.invariant.so refl
-    (keep_halts c.args.longest refuses c.args.end set.empty c.loop-i.midst.part.items c.loop-i.rest.now c.loop-i.midst.count c.loop-i.invariant.plain
+    (keep_halts c.args.longest refuses c.args.end no_set c.loop-i.midst.part.items c.loop-i.rest.now c.loop-i.midst.count c.loop-i.invariant.plain
     (all_plain c.args.end c.loop-i.rest.now c.in_default.ensures) c.in-Err-keep.why c.in-Err-keep.ensures.why)

@@ -1,5 +1,5 @@
 use Rattle.far_firsts.specs.Causes.{Refuses}
-use Rattle.far_firsts.specs.Doing.{state}
+use Rattle.far_firsts.specs.Doing.{known_of, state}
 use Rattle.far_firsts.proofs.Steps.{leaves_all}
 use Rattle.far_firsts.proofs.Halts.{did_stops, either, halted, if_err, on_ok, stops_so, wrote}
 use Rattle.far_firsts.proofs.write.work.Goals as goal
@@ -19,8 +19,8 @@ pub returns-in-Err-clause-halted : goal.returns-in-Err-clause-halted
 returns-in-Err-clause-halted g c =
     let honest = c.args.seen.now.honest in
     let refuses = Refuses g.O.Objects.unmade g.O.Objects.unreached honest in
-    let a = state c.args.seen.now.lines c.args.midst.now.part.items c.args.midst.now.count in
-    let b = state c.take_bytes-taken.new.seen.lines c.take_bytes-taken.new.midst.part.items c.take_bytes-taken.new.midst.count in
+    let a = state (known_of c.args.end c.args.seen.now) c.args.midst.now.part.items c.args.midst.now.count in
+    let b = state (known_of c.args.end c.take_bytes-taken.new.seen) c.take_bytes-taken.new.midst.part.items c.take_bytes-taken.new.midst.count in
     halted c.args.longest refuses honest c.args.end c.args.bytes.now a c.take_bytes-taken.new.midst.count c.args.midst.now.out.items c.take_bytes-taken.new.midst.out.items _ (g.W.Write.contents c.args.output.now) (g.W.Write.contents c.let_out.new.output) c.requires.empty
     (either c.take_bytes-taken.result _ _ _ (λ d. did_stops c.args.longest refuses honest c.args.end c.args.bytes.now a b c.args.midst.now.out.items c.take_bytes-taken.new.midst.out.items _ tt d)
     (λ why s. stops_so c.args.longest refuses honest c.args.end c.args.bytes.now a c.take_bytes-taken.new.midst.count c.args.midst.now.out.items c.take_bytes-taken.new.midst.out.items why _ (λ x. tt) s)

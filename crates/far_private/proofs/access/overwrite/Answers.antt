@@ -1,5 +1,5 @@
 use Rattle.std.proofs.Common.{◌∙◌, ap, subst, sym}
-use Rattle.far_core.specs.state.State.{State}
+use Rattle.far_events.specs.state.State.{State}
 use Rattle.far_private.specs.Objects.{Settled, objects_of, state_in}
 use Rattle.far_private.proofs.Resting.{at_rest}
 use Rattle.far_private.proofs.Writing.{fits, over_settled, over_written}
@@ -20,4 +20,5 @@ returns g c =
       written = ap objects_of c.write_over.ensures.state ∙ over_written s c.args.evac.now.book.near.core.law c.requires.settled c.args.pointer c.args.from c.args.bytes.now c.requires.used c.requires.rests c.requires.some c.requires.inside c.requires.most (λ i. (c.type_inv.bytes i).fits);
       used = ap (λ (u : State). u.used c.args.pointer) c.write_over.ensures.state ∙ c.requires.used;
       rests = c.write_over.ensures.rests;
+      idle = λ e. c.write_over.ensures.round.0 ∙ e;
     }

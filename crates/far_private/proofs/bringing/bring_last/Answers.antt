@@ -22,4 +22,5 @@ returns-in-Err g c =
       rests = tt;
       away = subst (StaysAway _ g.D.Device.reads u c.args.pointer c.bring.new.evac.book.device) (sym c.told.ensures) (told_away g.D.Device.reads u c.args.pointer c.bring.new.evac.book.device c.in-Err.why made c.last_round-made.ensures.want c.in-Err.ensures.away);
       stuck = subst (IsStuck _ g.D.Device.writes s) (sym c.told.ensures) (told_stuck g.D.Device.writes s c.in-Err.why made (ok_map made c.in-Err.ensures.roomy c.last_round-made.ensures.room) c.last_round-made.ensures.stuck);
+      idle = λ e. c.bring.ensures.idle (c.last_round-made.ensures.idle e);
     }

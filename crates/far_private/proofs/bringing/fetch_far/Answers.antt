@@ -1,4 +1,4 @@
-use Rattle.std.proofs.Common.{◌≡◌, subst, true}
+use Rattle.std.proofs.Common.{◌≡◌, subst, true, ◌∙◌}
 use Rattle.far_core.specs.state.CoreState.{core_state}
 use Rattle.far_hand.specs.declared.plain.Plain.{Plain}
 use Rattle.far_book.specs.book.BookOf.{BookOf}
@@ -18,7 +18,7 @@ pub returns-in-Ok-Some : goal.returns-in-Ok-Some
 returns-in-Ok-Some g c =
     let x = fetch_told (state_in c.args.evac.now) c.args.pointer c.args.evac.now.book.near.core.law c.requires.used c.requires.far (state_in c.fetch.new.self) c.in-Ok-Some.field-0 c.in-Ok-Some.field-0-0 c.in-Ok-Some.field-0-is
     c.in-Ok-Some.ensures.fetched.place c.in-Ok-Some.ensures.fetched.near in
-    record { keeps = x.0; near = x.1; rests = x.2; far = tt; roomy = λ _. tt }
+    record { keeps = x.0; near = x.1; rests = x.2; far = tt; roomy = λ _. tt; idle = λ e. c.fetch.ensures.round.0 ∙ e }
 
 pub returns-in-Err : goal.returns-in-Err
 returns-in-Err g c =
@@ -31,4 +31,5 @@ returns-in-Err g c =
       far = far_stays g.D.Device.reads g.D.Device.lets_go (Unit {0}) (state_in c.args.evac.now) c.args.pointer c.args.evac.now.book.device c.fetch.new.self.book.device (g.D.Device.honest c.args.evac.now.book.device) agrees
           (state_in c.fetch.new.self) c.in-Err.why c.requires.far c.in-Err.ensures.fetched.refused c.in-Err.ensures.fetched.called same;
       roomy = fetch_roomy (state_in c.args.evac.now) c.args.pointer c.in-Err.why _ c.in-Err.ensures.fetched.refused;
+      idle = λ e. c.fetch.ensures.round.0 ∙ e;
     }

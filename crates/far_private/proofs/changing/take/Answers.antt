@@ -31,6 +31,7 @@ returns-in-Ok g c =
       outside = tt;
       away = tt;
       stuck = tt;
+      idle = c.bring_to_rest.ensures.idle;
     }
 
 pub returns-in-Err : goal.returns-in-Err
@@ -43,4 +44,5 @@ returns-in-Err g c = record {
       (away_outside g.D.Device.reads (state_in c.bring_to_rest.new.evac) c.args.pointer c.bring_to_rest.new.evac.book.device c.in-Err.why c.in-Err.ensures.away);
   away = c.in-Err.ensures.away;
   stuck = c.in-Err.ensures.stuck;
+  idle = c.bring_to_rest.ensures.idle;
 }

@@ -3,7 +3,7 @@ use Rattle.far_word.specs.declared.sizes.TheConstants.{LOG_WORDS}
 use Rattle.far_core.specs.declared.machine.Core.{Core}
 use Rattle.far_core.specs.laws.Observed.{dead_bytes, live_bytes, unused_bytes}
 use Rattle.far_core.specs.state.CoreState.{core_state}
-use Rattle.far_core.specs.state.State.{State}
+use Rattle.far_events.specs.state.State.{State}
 use Rattle.far_log.specs.declared.row.LogRow.{LogRow}
 use Rattle.far_private.specs.Objects.{state_in}
 use Rattle.far_private.proofs.counting.bytes_of_log.Goals as goal

@@ -4,7 +4,7 @@ use Rattle.std.specs.List.{range_with_len}
 use Rattle.far_core.specs.declared.machine.Core.{Core}
 use Rattle.far_core.specs.laws.Observed.{live_bytes}
 use Rattle.far_core.specs.state.CoreState.{core_state}
-use Rattle.far_core.specs.state.State.{State}
+use Rattle.far_events.specs.state.State.{State}
 use Rattle.far_alone.proofs.Counted.{summed_more}
 use Rattle.far_private.specs.Objects.{state_in}
 use Rattle.far_private.proofs.counting.count_bytes.Goals as goal

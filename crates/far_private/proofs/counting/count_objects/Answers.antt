@@ -5,7 +5,7 @@ use Rattle.far_word.specs.Mark.{bit_of}
 use Rattle.far_word.specs.Pointer.{read_of}
 use Rattle.far_core.specs.declared.machine.Core.{Core}
 use Rattle.far_core.specs.state.CoreState.{core_state}
-use Rattle.far_core.specs.state.State.{State}
+use Rattle.far_events.specs.state.State.{State}
 use Rattle.far_alone.proofs.Counted.{counted_more, summed_more}
 use Rattle.far_private.specs.FarBytes.{far_len, lies_far, said_far_len, says_far, says_here}
 use Rattle.far_private.specs.Objects.{objects_of, state_in}

@@ -2,6 +2,7 @@ use Rattle.std.proofs.Common.{arith}
 use Rattle.far_evac.specs.EvacOf.{moment_alone}
 use Rattle.far_private.proofs.RoundsAsked.{no_round}
 use Rattle.far_private.proofs.Rounds.{selects, unchanged}
+use Rattle.far_private.proofs.LastCalls.{stays_idle}
 use Rattle.far_private.proofs.freeing.begin.Goals as goal
 
 pub returns-in-Ok : goal.returns-in-Ok
@@ -10,6 +11,7 @@ returns-in-Ok g c = record {
   few = omega (arith, c.in-Ok.ensures.chosen.few, c.len.ensures);
   named = (_, _, c.in-Ok.ensures.gives, omega (arith, c.len.ensures));
   refused = tt;
+  idle = tt;
 }
 
 pub returns-in-Err : goal.returns-in-Err
@@ -18,4 +20,5 @@ returns-in-Err g c = record {
   few = tt;
   named = tt;
   refused = no_round g.P.Policy.gives c.args.policy.now c.select.new.policy _ c.args.most c.in-Err.why (moment_alone c.args.evac.now) _ c.requires.idle c.in-Err.ensures.barred c.in-Err.ensures.why;
+  idle = stays_idle c.args.evac.now c.select.new.self c.in-Err.ensures.unchanged c.requires.idle;
 }

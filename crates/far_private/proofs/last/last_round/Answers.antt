@@ -37,6 +37,7 @@ returns-in-Ok g c =
       room = c.send_off.ensures.room;
       want = c.send_off.ensures.want;
       stuck = stuck_err g.D.Device.writes s t k c.send_off.result c.send_off.ensures.stuck;
+      idle = λ _. c.send_off.ensures.idle;
     }
 
 pub returns-in-Err : goal.returns-in-Err
@@ -45,4 +46,5 @@ returns-in-Err g c = record {
   room = tt;
   want = spent_want c.in-Err.why c.in-Err.ensures.spent;
   stuck = spent_stuck g.D.Device.writes (state_in c.args.evac.now) c.in-Err.why c.in-Err.ensures.spent;
+  idle = λ _. c.unmark_oldest.ensures.idle;
 }

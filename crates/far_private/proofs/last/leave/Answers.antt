@@ -1,7 +1,7 @@
 use Rattle.std.proofs.Common.{arith}
 use Rattle.far_private.specs.Objects.{state_in}
 use Rattle.far_private.proofs.Keeping.{keeps_both}
-use Rattle.far_private.proofs.LastSteps.{leaves_empty, leaves_keeps, stops_keeps, stops_taken}
+use Rattle.far_private.proofs.LastSteps.{leaves_empty, leaves_keeps, stops_keeps, stops_taken, leaves_idle}
 use Rattle.far_private.proofs.last.leave.Goals as goal
 
 pub returns-in-Ok : goal.returns-in-Ok
@@ -17,6 +17,7 @@ returns-in-Ok g c =
       emptied = leaves_empty old new law moment alone c.requires.evacuating 65536 (omega arith) is c.requires.cold;
       want = tt;
       stuck = tt;
+      idle = leaves_idle old new law moment alone c.requires.evacuating 65536 (omega arith) is;
     }
 
 pub returns-in-Err : goal.returns-in-Err
@@ -32,4 +33,5 @@ returns-in-Err g c =
       emptied = tt;
       want = tt;
       stuck = λ _. stops_taken old new law moment alone c.requires.evacuating stops.0 stops.2 g.D.Device.writes g.D.Device.lets_go _ _ _ _ new.book.near.core.law ((c.in-Err.ensures.refused c.requires.evacuating).alone alone);
+      idle = c.end_round.ensures.idle;
     }

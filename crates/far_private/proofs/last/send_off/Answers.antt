@@ -1,11 +1,13 @@
-use Rattle.std.proofs.Common.{◌∙◌, sym}
+use Rattle.std.proofs.Common.{◌∙◌, sym, ap}
 use Rattle.far_evac.specs.EvacOf.{moment_alone}
 use Rattle.far_private.specs.Objects.{state_in}
 use Rattle.far_private.proofs.Keeping.{keeps_both, settled_on}
-use Rattle.far_private.proofs.LastCalls.{chosen_cold, chosen_marks, cold_cells, none_chosen, none_room, ok_map, oldest_are, oldest_spent, some_chosen, some_room, spent_stuck, spent_want}
+use Rattle.far_private.proofs.LastCalls.{chosen_cold, chosen_marks, cold_cells, none_chosen, none_room, ok_map, oldest_are, oldest_spent, some_chosen, some_room, spent_stuck, spent_want, stays_idle}
 use Rattle.far_private.proofs.LastRounds.{same_more}
 use Rattle.far_private.proofs.Rounds.{selects, unchanged}
 use Rattle.far_private.proofs.Stuck.{stuck_err}
+use Rattle.far_evac.specs.Choosing.{after_selecting}
+use Rattle.far_evac.specs.Moment.{Moment}
 use Rattle.far_private.proofs.last.send_off.Goals as goal
 
 pub returns-then-is_empty : goal.returns-then-is_empty
@@ -18,6 +20,7 @@ returns-then-is_empty g c =
       room = none_room old mid old.book.near.core.law c.keeps_law.ensures.moment c.requires.many c.in-Ok.chosen c.in-Ok.ensures.begun are (none_chosen c.in-Ok.chosen (sym c.is_empty.ensures ∙ c.if-is_empty.true));
       want = tt;
       stuck = tt;
+      idle = ap (λ (m : Moment). m.phase) (c.in-Ok.ensures.begun ∙ ap (after_selecting (moment_alone old)) (none_chosen c.in-Ok.chosen (sym c.is_empty.ensures ∙ c.if-is_empty.true))) ∙ c.requires.idle;
     }
 
 pub mark_all-requires : goal.mark_all-requires
@@ -56,6 +59,7 @@ returns-else-is_empty g c =
           (c.poll_all.ensures.collection ∙ c.mark_all.ensures.collection ∙ held) (same_more (state_in mid) (state_in c.mark_all.new.evac) t c.mark_all.ensures.logs c.poll_all.ensures.logs)) c.leave.ensures.emptied;
       want = c.leave.ensures.want;
       stuck = stuck_err g.D.Device.writes s t k c.leave.result c.leave.ensures.stuck;
+      idle = c.leave.ensures.idle;
     }
 
 pub returns-in-Err : goal.returns-in-Err
@@ -66,4 +70,5 @@ returns-in-Err g c =
       room = tt;
       want = spent_want c.in-Err.why spent;
       stuck = spent_stuck g.D.Device.writes (state_in c.args.evac.now) c.in-Err.why spent;
+      idle = stays_idle c.args.evac.now c.select.new.self c.in-Err.ensures.unchanged c.requires.idle;
     }

@@ -3,7 +3,7 @@ use Rattle.std.specs.Prelude.{IsSome}
 use Rattle.far_word.specs.Pointer.{read_of}
 use Rattle.far_core.specs.declared.machine.Core.{Core}
 use Rattle.far_core.specs.state.CoreState.{core_state}
-use Rattle.far_core.specs.state.Law.{in_use}
+use Rattle.far_events.specs.state.Law.{in_use}
 use Rattle.far_private.specs.Looks.{named_structure}
 use Rattle.far_private.specs.Objects.{state_in}
 use Rattle.far_private.proofs.Told.{structure_unused, structure_used}

@@ -4,7 +4,7 @@ use Rattle.far_word.specs.Bytes.{bytes_of}
 use Rattle.far_word.specs.Pointer.{read_of}
 use Rattle.far_core.specs.declared.machine.Core.{Core}
 use Rattle.far_core.specs.state.CoreState.{core_state}
-use Rattle.far_core.specs.state.State.{addr}
+use Rattle.far_events.specs.state.State.{addr}
 use Rattle.far_private.specs.Objects.{state_in}
 use Rattle.far_private.specs.Steps.{SaysAt}
 use Rattle.far_private.proofs.Ranging.{behind, bytes_inside, range_of}

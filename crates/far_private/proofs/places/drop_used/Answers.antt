@@ -1,5 +1,6 @@
 use Rattle.far_private.specs.Objects.{state_in}
 use Rattle.far_private.proofs.Placing.{drop_legal, drop_objects, drop_settled, dropped_inside, dropped_so}
+use Rattle.std.proofs.Common.{◌∙◌}
 use Rattle.far_private.proofs.places.drop_used.Goals as goal
 
 pub ask-requires : goal.ask-requires
@@ -17,4 +18,5 @@ returns g c = record {
       (c.retire.ensures.retired.exact tt);
   dropped = drop_objects (state_in c.args.evac.now) c.args.pointer c.args.evac.now.book.near.core.law c.requires.settled c.requires.used (state_in c.retire.new.self) (state_in c.ask.new.self) c.ask.ensures.state
       (c.retire.ensures.retired.exact tt);
+  idle = λ e. c.retire.ensures.round.0 ∙ c.ask.ensures.round.0 ∙ e;
 }

@@ -1,6 +1,6 @@
 use Rattle.std.proofs.Common.{◌∙◌, ap, subst, sym}
 use Rattle.std.specs.Prelude.{IfErr, IfOk, OnErr, ◌≡◌}
-use Rattle.far_core.specs.state.State.{State}
+use Rattle.far_events.specs.state.State.{State}
 use Rattle.far_private.specs.Causes.{IsStuck}
 use Rattle.far_private.specs.Objects.{Settled, objects_of, state_in, with_filled}
 use Rattle.far_private.proofs.places.place_filled.Goals as goal
@@ -21,4 +21,5 @@ returns g c =
       refused = subst (λ (t : State). OnErr c.place_by_rounds.result (objects_of n ≡ objects_of t)) same c.place_by_rounds.ensures.refused;
       why = c.place_by_rounds.ensures.why;
       stuck = subst (λ (t : State). IfErr c.place_by_rounds.result (λ why. IsStuck _ g.D.Device.writes t why)) same c.place_by_rounds.ensures.stuck;
+      idle = λ e. c.place_by_rounds.ensures.idle (c.place_now.ensures.idle e);
     }

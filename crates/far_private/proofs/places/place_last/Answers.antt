@@ -23,6 +23,7 @@ returns-then-place_now g c = record {
   refused = tt;
   why = tt;
   stuck = tt;
+  idle = λ e. c.place_now.ensures.idle (c.last_round-made.ensures.idle e);
 }
 
 pub returns : goal.returns
@@ -38,4 +39,5 @@ returns g c =
       refused = ap objects_of same ∙ c.last_round-made.ensures.keeps.objects;
       why = subst IsWant (sym c.told.ensures) (told_want c.last_round-made.result (ok_map c.last_round-made.result never c.last_round-made.ensures.room) c.last_round-made.ensures.want);
       stuck = subst (IsStuck _ g.D.Device.writes s) (sym c.told.ensures) (told_stuck g.D.Device.writes s NoRoom c.last_round-made.result (ok_map c.last_round-made.result (λ two e. never two) c.last_round-made.ensures.room) c.last_round-made.ensures.stuck);
+      idle = λ e. c.place_now.ensures.idle (c.last_round-made.ensures.idle e);
     }

@@ -21,6 +21,7 @@ returns-in-Ok g c = record {
       c.requires.some c.requires.most c.ranges.structure.fits c.requires.front (λ k. (c.type_inv.bytes k).fits) c.in-Ok.ensures.placed.room c.in-Ok.ensures.placed.made;
   refused = λ e. absurd (true≢false e);
   none = λ e. absurd (true≢false e);
+  idle = λ e. c.place_with.ensures.round.0 ∙ e;
 }
 
 pub returns-in-Err : goal.returns-in-Err
@@ -29,4 +30,5 @@ returns-in-Err g c = record {
   made = λ e. absurd (false≢true e);
   refused = λ _. ap (λ b. core_state b.near.core) c.in-Err.ensures.placed.unchanged;
   none = λ _. ap (λ b. room (core_state b.near.core) (size_of c.args.len) true) c.in-Err.ensures.placed.unchanged ∙ c.in-Err.ensures.placed.none;
+  idle = λ e. c.place_with.ensures.round.0 ∙ e;
 }

@@ -23,4 +23,6 @@ returns-in-Ok g c =
           (near_read t c.fetch_far.new.evac.book.near.core.law c.args.pointer (used_on s t c.args.pointer k c.requires.used) c.in-Ok.ensures.near c.args.from (length c.args.out.now) c.copy_near.new.out c.copy_near.ensures);
       far = tt;
       roomy = λ _. tt;
+      kept = tt;
+      idle = c.fetch_far.ensures.idle;
     }

@@ -25,6 +25,8 @@ returns-in-Ok g c =
       read = read_before s t c.last_round-made.ensures.keeps c.args.pointer c.args.from (length c.args.out.now) c.read_once.new.out c.in-Ok.ensures.read;
       far = tt;
       stuck = tt;
+      kept = tt;
+      idle = λ e. c.read_once.ensures.idle (c.last_round-made.ensures.idle e);
     }
 
 pub returns-in-Err : goal.returns-in-Err
@@ -37,4 +39,6 @@ returns-in-Err g c =
       read = tt;
       far = subst (StaysFar _ g.D.Device.reads u c.args.pointer c.read_once.new.evac.book.device) (sym c.told.ensures) (told_far g.D.Device.reads u c.args.pointer c.read_once.new.evac.book.device c.in-Err.why made c.last_round-made.ensures.want c.in-Err.ensures.far);
       stuck = subst (IsStuck _ g.D.Device.writes s) (sym c.told.ensures) (told_stuck g.D.Device.writes s c.in-Err.why made (ok_map made c.in-Err.ensures.roomy c.last_round-made.ensures.room) c.last_round-made.ensures.stuck);
+      kept = c.in-Err.ensures.kept;
+      idle = λ e. c.read_once.ensures.idle (c.last_round-made.ensures.idle e);
     }

@@ -8,6 +8,7 @@ copy_near-requires-clause-inside g c = subst (λ n. c.args.from + length c.args.
 
 pub returns : goal.returns
 returns g c = record {
-  keeps = c.warm.ensures;
+  keeps = c.warm.ensures.keeps;
   read = near_read (state_in c.args.evac.now) c.args.evac.now.book.near.core.law c.args.pointer c.requires.used c.requires.near c.args.from (length c.args.out.now) c.copy_near.new.out c.copy_near.ensures;
+  idle = c.warm.ensures.idle;
 }

@@ -1,7 +1,7 @@
-use Rattle.std.proofs.Common.{◌≡◌, ◌+◌, ◌≤◌, ap, length, subst, sym}
+use Rattle.std.proofs.Common.{◌≡◌, ◌+◌, ◌≤◌, ap, length, subst, sym, ◌∙◌}
 use Rattle.std.specs.Prelude.{IfErr}
 use Rattle.far_core.specs.state.CoreState.{core_state}
-use Rattle.far_core.specs.state.State.{State}
+use Rattle.far_events.specs.state.State.{State}
 use Rattle.far_alone.proofs.Bringing.{is_far}
 use Rattle.far_private.specs.Causes.{StaysFar}
 use Rattle.far_private.specs.Objects.{state_in}
@@ -27,4 +27,6 @@ returns g c =
       far = subst (λ (t : State). IfErr c.glance.result (λ why. StaysFar _ g.D.Device.reads t c.args.pointer c.glance.new.self.book.device why)) (sym same)
           (glance_far s law c.args.pointer c.requires.used c.requires.far g.D.Device.reads c.args.from c.glance.new.out c.args.evac.now.book.device c.glance.new.self.book.device c.glance.result x.called x.whole);
       given = glance_fault s law c.args.pointer c.requires.used c.requires.far g.D.Device.reads c.args.from c.glance.new.out c.args.evac.now.book.device c.glance.new.self.book.device c.glance.result x.called;
+      kept = c.glance.ensures.kept;
+      idle = λ e. c.glance.ensures.round.0 ∙ e;
     }

@@ -20,6 +20,7 @@ returns-in-Ok g c = record {
   refused = tt;
   away = tt;
   stuck = tt;
+  idle = λ e. c.overwrite_cold.ensures.idle (c.bring_anew.ensures.idle e);
 }
 
 pub returns-in-Err : goal.returns-in-Err
@@ -29,4 +30,5 @@ returns-in-Err g c = record {
   refused = c.bring_anew.ensures.keeps.objects;
   away = c.in-Err.ensures.away;
   stuck = c.in-Err.ensures.stuck;
+  idle = c.bring_anew.ensures.idle;
 }

@@ -1,7 +1,7 @@
 use Rattle.std.proofs.Common.{◌≡◌, ap, refl, rules, subst, sym, ◌∙◌}
 use Rattle.std.proofs.lemmas.Bool.{true≢false}
 use Rattle.std.specs.Prelude.{IfSome}
-use Rattle.far_core.specs.state.State.{State}
+use Rattle.far_events.specs.state.State.{State}
 use Rattle.far_hand.specs.Quiet.{IsQuietNear}
 use Rattle.far_replay.specs.Commanded.{KeepsFar, Serves}
 use Rattle.far_alone.specs.Dereference.{asked_for, order_come}

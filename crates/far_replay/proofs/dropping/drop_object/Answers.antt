@@ -1,12 +1,12 @@
 use Rattle.std.proofs.Common.{◌≡◌, ℕ, inl, inr, true, Some, None, is_some, refl, sym, ap, ◌∙◌}
 use Rattle.far_word.specs.Pointer.{read_of}
 use Rattle.far_core.specs.declared.machine.Core.{Core}
-use Rattle.far_core.specs.events.Naming.{is_dropped}
+use Rattle.far_events.specs.events.Naming.{is_dropped}
 use Rattle.far_core.specs.state.CoreState.{core_state}
-use Rattle.far_core.specs.state.State.{State}
-use Rattle.far_book.specs.book.Effects.{retired}
+use Rattle.far_events.specs.state.State.{State}
+use Rattle.far_book.specs.book.Effects.{retired, with_free_cell}
 use Rattle.far_text.specs.Command.{Mutator, Drop}
-use Rattle.far_core.specs.events.Ranges.{after_events}
+use Rattle.far_events.specs.events.Ranges.{after_events}
 use Rattle.far_replay.specs.Events.{events_for}
 use Rattle.far_replay.specs.Moment.{FarSide, moment_in, state_in}
 use Rattle.far_alone.specs.Objects.{uses}
@@ -14,11 +14,10 @@ use Rattle.far_alone.proofs.Drops.{ask_fact, asked_is_dropped, unheld_is}
 use Rattle.far_replay.proofs.Drops.{dropped_by_events}
 use Rattle.far_replay.specs.Commanded.{Serves}
 use Rattle.std.proofs.lemmas.Bool.{cases_eq}
-use Rattle.far_book.specs.book.Effects.{with_free_cell}
 use Rattle.far_book.specs.book.FarSide.{kept_len}
 use Rattle.far_book.proofs.region.Retires.{retired_is}
-use Rattle.far_core.proofs.Cells.{unused}
-use Rattle.far_core.proofs.Put.{put_same}
+use Rattle.far_events.proofs.Cells.{unused}
+use Rattle.far_events.proofs.Put.{put_same}
 use Rattle.far_replay.specs.Far.{far_of}
 use Rattle.far_replay.proofs.FarReads.{go_no_more}
 use Rattle.far_alone.proofs.Storing.{uses_own}

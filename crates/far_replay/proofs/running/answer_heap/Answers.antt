@@ -1,5 +1,5 @@
 use Rattle.std.proofs.Common.{ap, inr, subst, sym}
-use Rattle.far_core.specs.state.Shape.{is_shape}
+use Rattle.far_events.specs.state.Shape.{is_shape}
 use Rattle.far_evac.specs.MomentLaw.{MomentLaw}
 use Rattle.far_evac.specs.Strays.{NoneStrays}
 use Rattle.std.specs.Option.{option_map}

@@ -1,6 +1,6 @@
 use Rattle.std.proofs.Common.{◌∙◌, sym}
 use Rattle.std.proofs.lemmas.Bool.{true_from_ne_false}
-use Rattle.far_core.specs.state.Shape.{is_shape}
+use Rattle.far_events.specs.state.Shape.{is_shape}
 use Rattle.far_replay.proofs.running.new_heap.Goals as goal
 
 pub returns-clause-range : goal.returns-clause-range

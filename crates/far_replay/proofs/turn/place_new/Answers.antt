@@ -1,7 +1,7 @@
 use Rattle.std.proofs.Common.{sym, refl, Some, None, true, arith}
 use Rattle.far_word.specs.Sizes.{size_of}
 use Rattle.far_core.specs.state.Room.{room}
-use Rattle.far_core.specs.state.State.{State}
+use Rattle.far_events.specs.state.State.{State}
 use Rattle.far_replay.specs.Moment.{state_in}
 use Rattle.far_alone.proofs.Lowest.{lowest_agrees}
 use Rattle.far_replay.proofs.Placing.{new_refusal, object_made}

@@ -2,9 +2,9 @@ use Rattle.std.proofs.Common.{◌≡◌, ◌+◌, ◌≤◌, ◌∙◌, ℕ, Lis
 use Rattle.std.specs.Prelude.{slice_range}
 use Rattle.far_word.proofs.ByteLaws.{length-bytes_of}
 use Rattle.far_core.specs.declared.machine.Core.{Core}
-use Rattle.far_core.specs.events.Step.{data_len, data_word}
+use Rattle.far_events.specs.events.Step.{data_len, data_word}
 use Rattle.far_core.specs.state.CoreState.{core_state}
-use Rattle.far_core.specs.state.State.{State}
+use Rattle.far_events.specs.state.State.{State}
 use Rattle.far_replay.specs.Moment.{state_in}
 use Rattle.far_alone.specs.Objects.{data_of}
 use Rattle.far_reply.specs.Reply.{Data}

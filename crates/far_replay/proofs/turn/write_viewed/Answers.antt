@@ -1,5 +1,5 @@
 use Rattle.std.proofs.Common.{◌∙◌, ap}
-use Rattle.far_core.specs.events.Ranges.{after_events}
+use Rattle.far_events.specs.events.Ranges.{after_events}
 use Rattle.far_replay.specs.Moment.{state_in}
 use Rattle.far_replay.proofs.RangeTurns.{stores_asked}
 use Rattle.far_replay.proofs.turn.write_viewed.Goals as goal

@@ -1,7 +1,7 @@
 use Rattle.std.proofs.Common.{◌≡◌, ◌/◌, true, ap, refl, subst, sym, ◌∙◌}
 use Rattle.far_word.specs.declared.sizes.TheConstants.{CELLS}
 use Rattle.far_core.specs.declared.machine.Core.{Core}
-use Rattle.far_core.specs.events.Step.{is_opened}
+use Rattle.far_events.specs.events.Step.{is_opened}
 use Rattle.far_core.specs.state.CoreState.{core_state}
 use Rattle.far_text.specs.Command.{Mutator, On, Views}
 use Rattle.far_replay.specs.Moment.{moment_in, state_in}

@@ -6,7 +6,7 @@ use Rattle.far_index.specs.Grown.{Placed}
 use Rattle.far_seen.specs.Parts.{plain}
 use Rattle.far_seen.specs.Stored.{Keeps, with_longs}
 use Rattle.far_seen.proofs.Longs.{all_before, as_was, keeps_before}
-use Rattle.far_seen.proofs.Outcomes.{Same, same_sound, same_lines, added_sound, added_set}
+use Rattle.far_seen.proofs.Outcomes.{Same, same_sound, same_lines, added_stamps, added_sound, added_set}
 use Rattle.far_seen.proofs.steps.add.Given.{Over}
 use Rattle.far_seen.proofs.steps.add.Goals.{After-find_place, After-set}
 use Rattle.far_seen.proofs.steps.add.Goals as goal
@@ -82,3 +82,9 @@ returns-clause-ok g c =
     added_set (plain (with_longs (g.O.Objects.far c.args.parts.now.store.worker) c.args.parts.now.store.longs.items) c.args.parts.now.near)
     (with_longs (g.O.Objects.far c.put_line.new.store.worker) c.put_line.new.store.longs.items) c.set.new.self c.args.tag c.in-Ok-put_line.number c.args.line.now
     c.requires.sound (placed g (goal.at.returns-clause-ok g c).After-set) c.in-Ok-put_line.ensures.put c.requires.tag c.requires.absent
+
+pub returns-clause-stamps : goal.returns-clause-stamps
+returns-clause-stamps g c =
+    added_stamps (plain (with_longs (g.O.Objects.far c.args.parts.now.store.worker) c.args.parts.now.store.longs.items) c.args.parts.now.near)
+    (with_longs (g.O.Objects.far c.put_line.new.store.worker) c.put_line.new.store.longs.items) c.set.new.self c.args.tag c.in-Ok-put_line.number c.args.line.now
+    c.requires.sound (placed g (goal.at.returns-clause-stamps g c).After-set) c.in-Ok-put_line.ensures.put c.requires.tag c.requires.absent

@@ -1,11 +1,11 @@
-use Rattle.std.proofs.Common.{◌≡◌, ◌≢◌, ℕ, ◌≤◌, List, Option, Some, refl, sym, ◌∙◌, ap, subst, below_more}
+use Rattle.std.proofs.Common.{◌≡◌, ◌≢◌, ℕ, ◌≤◌, List, [], ◌∷◌, length, Option, Some, refl, sym, ◌∙◌, ap, subst, below_more}
 use Rattle.std.specs.Bool.{Decides}
 use Rattle.far_objects.specs.Far.{Far}
 use Rattle.far_index.specs.declared.slot.Slot.TheVariants.{Empty, Full}
 use Rattle.far_index.specs.Slots.{slot_at}
 use Rattle.far_index.specs.Tags.{tag_of}
 use Rattle.far_seen.specs.declared.near.Near.{Near}
-use Rattle.far_seen.specs.Parts.{line_at, plain}
+use Rattle.far_seen.specs.Parts.{stamp_at, stamp_in, line_at, plain}
 use Rattle.far_seen.specs.Stored.{with_longs}
 use Rattle.far_seen.proofs.Told.{other_here, tag_here}
 use Rattle.far_seen.proofs.steps.find.Goals.{in-Other, in-Tag+in-Ok-false}
@@ -61,3 +61,14 @@ loop-place-preserved g c =
                 j up low;
           }
     ]
+
+pub returns-in-Ok-true-clause-known : goal.returns-in-Ok-true-clause-known
+returns-in-Ok-true-clause-known g c = λ e.
+    let was = c.loop-place.invariant in
+    let number = c.in-Tag.number in
+    let sizes = (with_longs (g.O.Objects.far c.args.parts.now.store.worker) c.args.parts.now.store.longs.items).sizes in
+    let slot : slot_at c.args.parts.now.near.slots c.loop-place.place ≡ Full c.args.tag number = ap (λ (n : Near). slot_at n.slots c.loop-place.place) (sym was.near) ∙ c.in-Tag.ensures.tag number refl in
+    let size : sizes number ≡ Some (length c.args.line.now) = (λ i. (with_longs (sym was.far i) (sym was.longs i).items).sizes number) ∙ c.in-Ok-true.ensures.long c.in-Ok-true.field-0-test in (
+      c.loop-place.place,
+      ap (stamp_in sizes) slot ∙ ap (stamp_at c.args.tag) size ∙ ap (λ t. Some (t ∷ length c.args.line.now ∷ [])) c.requires.tag,
+    )

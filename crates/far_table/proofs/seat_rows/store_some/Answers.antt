@@ -1,6 +1,6 @@
 use Rattle.std.proofs.Common.{◌≡◌, ◌+◌, ◌*◌, ◌≤◌, length, take, drop, refl, sym, ap, ◌∙◌, subst, arith}
-use Rattle.far_core.specs.declared.event.Event.TheVariants.{Store}
-use Rattle.far_core.specs.declared.event.Reply.TheVariants.{Done}
+use Rattle.far_events.specs.declared.event.Event.TheVariants.{Store}
+use Rattle.far_events.specs.declared.event.Reply.TheVariants.{Done}
 use Rattle.far_table.specs.Ranges.{Wrote}
 use Rattle.far_table.specs.SeatRows.{RowStored}
 use Rattle.far_table.specs.Tells.{OwnerMade, owner_of}

@@ -1,8 +1,8 @@
 use Rattle.std.proofs.Common.{◌≡◌, true, Ok, ◌∙◌, ap, sym, subst}
 use Rattle.far_core.specs.declared.machine.Core.{Core}
 use Rattle.far_core.specs.state.CoreState.{core_state}
-use Rattle.far_core.specs.state.Law.{Law}
-use Rattle.far_core.specs.state.State.{State}
+use Rattle.far_events.specs.state.Law.{Law}
+use Rattle.far_events.specs.state.State.{State}
 use Rattle.far_core.specs.world.WorldOf.{world_of}
 use Rattle.far_book.specs.book.Actions.{Does, Fetches}
 use Rattle.tests_far_evac.specs.Kept.{KeepsWords}

@@ -1,7 +1,7 @@
 use Rattle.std.proofs.Common.{◌∙◌, sym, subst}
 use Rattle.far_core.specs.declared.machine.Core.{Core}
 use Rattle.far_core.specs.state.CoreState.{core_state}
-use Rattle.far_core.specs.state.Law.{Law}
+use Rattle.far_events.specs.state.Law.{Law}
 use Rattle.far_evac.specs.Owned.{KeepsObjects}
 use Rattle.tests_far_evac.proofs.KeptWords.{made_round_keeps, round_keeps}
 use Rattle.tests_far_evac.proofs.caller.make_round.Goals as goal

@@ -1,7 +1,7 @@
 use Rattle.std.proofs.Common.{◌∙◌, ◌-◌, ◌*◌, ◌^◌}
 use Rattle.std.proofs.lemmas.Bool.{le-leb}
 use Rattle.std.proofs.lemmas.Nat.{pow_pos}
-use Rattle.far_core.proofs.Bounds.{shifted_out, all_fit}
+use Rattle.far_events.proofs.Bounds.{shifted_out, all_fit}
 use Rattle.tests_owner.proofs.owner.keeps_padding.Goals as goal
 
 pub returns-then-left-ge8 : goal.returns-then-left-ge8

@@ -1,10 +1,10 @@
 use Rattle.far_book.proofs.book.Book.advance.Goals as goal
 use Rattle.std.proofs.Common.{refl, sym, subst, arith}
 use Rattle.std.specs.Prelude.{Ok, Err}
-use Rattle.far_core.specs.declared.event.Event.TheVariants.{Advance}
-use Rattle.far_core.specs.declared.event.Reply.TheVariants.{Epoch, Refused}
-use Rattle.far_core.specs.events.Advance.{MayAdvance}
-use Rattle.far_core.specs.state.State.{State}
+use Rattle.far_events.specs.declared.event.Event.TheVariants.{Advance}
+use Rattle.far_events.specs.declared.event.Reply.TheVariants.{Epoch, Refused}
+use Rattle.far_events.specs.events.Advance.{MayAdvance}
+use Rattle.far_events.specs.state.State.{State}
 use Rattle.far_hand.specs.Rounds.{MayChoose}
 use Rattle.far_book.specs.book.BookOf.{BookOf}
 use Rattle.far_book.specs.book.FarSide.{InOrder}

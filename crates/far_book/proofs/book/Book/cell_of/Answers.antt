@@ -3,8 +3,8 @@ use Rattle.far_book.proofs.book.Book.cell_of.Goals.{In-Some}
 use Rattle.far_book.proofs.book.Book.cell_of.Goals as goal
 use Rattle.std.proofs.Common.{◌≡◌, ◌∙◌, ℕ, ap, refl, sym, subst}
 use Rattle.std.specs.Prelude.{IfSome}
-use Rattle.far_core.specs.state.State.{State}
-use Rattle.far_core.proofs.Put.{put_same}
+use Rattle.far_events.specs.state.State.{State}
+use Rattle.far_events.proofs.Put.{put_same}
 use Rattle.far_hand.proofs.Closure.{no_call}
 use Rattle.far_hand.proofs.Finding.{finds_is}
 use Rattle.far_book.proofs.region.Renamings.{same_seen}

@@ -1,8 +1,8 @@
 use Rattle.far_book.proofs.book.Book.clear.Goals as goal
 use Rattle.std.proofs.Common.{refl, sym, subst, arith}
 use Rattle.far_book.specs.book.HandedOn.{ClearsCell}
-use Rattle.far_core.specs.declared.event.Event.TheVariants.{Clear}
-use Rattle.far_core.specs.events.Legal.{Legal}
+use Rattle.far_events.specs.declared.event.Event.TheVariants.{Clear}
+use Rattle.far_events.specs.events.Legal.{Legal}
 use Rattle.far_book.specs.book.BookOf.{BookOf}
 use Rattle.far_book.proofs.region.JobNotes.{idle}
 use Rattle.far_book.proofs.region.Rounding.{cleared_keeps}

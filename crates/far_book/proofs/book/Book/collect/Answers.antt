@@ -3,8 +3,8 @@ use Rattle.far_book.proofs.book.Book.collect.Goals.{Joined-collect_job, else-col
 use Rattle.far_book.proofs.book.Book.collect.Goals as goal
 use Rattle.std.proofs.Common.{◌≡◌, ◌≤◌, ◌+◌, ◌∙◌, ℕ, Bool, Option, None, true, false, ap, arith, subst, sym}
 use Rattle.far_word.specs.declared.job.Job.{Job}
-use Rattle.far_core.specs.state.Jobs.{job_at}
-use Rattle.far_core.specs.state.State.{State}
+use Rattle.far_events.specs.state.Jobs.{job_at}
+use Rattle.far_events.specs.state.State.{State}
 use Rattle.far_book.specs.book.BookOf.{BookOf}
 use Rattle.far_book.specs.book.Collecting.{CollectsKnown, more}
 use Rattle.far_hand.proofs.Closure.{then_came}

@@ -2,8 +2,8 @@ use Rattle.far_book.proofs.book.Book.empty_job.Goals as goal
 use Rattle.std.proofs.Common.{◌≡◌, ◌∙◌, ap, refl, subst, sym, true, arith}
 use Rattle.std.proofs.lemmas.Bool.{eq-eqb}
 use Rattle.far_word.specs.Job.{job_of}
-use Rattle.far_core.specs.events.Collect.{collected, is_loose}
-use Rattle.far_core.specs.state.State.{State}
+use Rattle.far_events.specs.events.Collect.{collected, is_loose}
+use Rattle.far_events.specs.state.State.{State}
 use Rattle.far_book.specs.book.BookOf.{BookOf}
 use Rattle.far_book.specs.book.FarSide.{InOrder}
 use Rattle.far_hand.specs.FindsJob.{FindsJob, job_found}

@@ -4,8 +4,8 @@ use Rattle.std.proofs.Common.{◌≡◌, ◌∙◌, ap, sym}
 use Rattle.std.specs.Prelude.{◌||◌, not}
 use Rattle.far_word.specs.Job.{job_of}
 use Rattle.far_word.specs.Pointer.{read_of}
-use Rattle.far_core.specs.events.Naming.{is_dropped}
-use Rattle.far_core.specs.state.Spans.{names_place}
+use Rattle.far_events.specs.events.Naming.{is_dropped}
+use Rattle.far_events.specs.state.Spans.{names_place}
 use Rattle.far_book.specs.book.Collecting.{Stays, fate_in, fate_of, is_void}
 use Rattle.far_book.proofs.region.Going.{fate_going, goes_stays, not_offered}
 

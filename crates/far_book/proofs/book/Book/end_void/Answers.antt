@@ -2,10 +2,10 @@ use Rattle.far_book.proofs.book.Book.end_void.Goals as goal
 use Rattle.std.proofs.Common.{◌∙◌, ap, refl, subst, sym, true, false}
 use Rattle.far_word.specs.Job.{job_of}
 use Rattle.far_word.specs.Pointer.{read_of}
-use Rattle.far_core.specs.events.Collect.{collected, is_loose}
-use Rattle.far_core.specs.events.Naming.{is_dropped}
-use Rattle.far_core.specs.state.State.{State}
-use Rattle.far_core.proofs.Put.{put_same}
+use Rattle.far_events.specs.events.Collect.{collected, is_loose}
+use Rattle.far_events.specs.events.Naming.{is_dropped}
+use Rattle.far_events.specs.state.State.{State}
+use Rattle.far_events.proofs.Put.{put_same}
 use Rattle.far_book.specs.book.Collecting.{GoesAsFound, fate_in, fate_of}
 use Rattle.far_hand.proofs.Closure.{then_came}
 use Rattle.far_hand.specs.FindsJob.{FindsJob}

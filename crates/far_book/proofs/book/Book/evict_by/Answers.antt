@@ -13,11 +13,11 @@ use Rattle.far_word.specs.declared.sizes.TheConstants.{CELLS}
 use Rattle.far_word.specs.Bytes.{bytes_of}
 use Rattle.far_word.specs.Pointer.{IsPtr, read_of}
 use Rattle.far_word.proofs.PointerLaws.{read_says}
-use Rattle.far_core.specs.events.Copies.{data_at}
-use Rattle.far_core.specs.events.Naming.{is_dropped, no_marks}
-use Rattle.far_core.specs.state.Law.{is_dirty}
-use Rattle.far_core.specs.state.State.{State, addr}
-use Rattle.far_core.proofs.Put.{put_same}
+use Rattle.far_events.specs.events.Copies.{data_at}
+use Rattle.far_events.specs.events.Naming.{is_dropped, no_marks}
+use Rattle.far_events.specs.state.Law.{is_dirty}
+use Rattle.far_events.specs.state.State.{State, addr}
+use Rattle.far_events.proofs.Put.{put_same}
 use Rattle.far_hand.specs.Finds.{Finds}
 use Rattle.far_hand.specs.Known.{IsKnown}
 use Rattle.far_hand.proofs.Closure.{then_came, came_only}

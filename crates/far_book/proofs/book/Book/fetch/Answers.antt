@@ -15,8 +15,8 @@ use Rattle.far_word.specs.declared.refused.Refused.{Refused}
 use Rattle.far_word.specs.declared.refused.Refused.TheVariants as refused
 use Rattle.far_word.specs.Bytes.{packed_word}
 use Rattle.far_word.specs.Pointer.{read_of}
-use Rattle.far_core.specs.events.Naming.{is_dropped}
-use Rattle.far_core.specs.state.State.{State}
+use Rattle.far_events.specs.events.Naming.{is_dropped}
+use Rattle.far_events.specs.state.State.{State}
 use Rattle.far_device.specs.declared.fault.DeviceFault.{DeviceFault}
 use Rattle.far_device.specs.declared.fault.DeviceFault.TheVariants.{Memory, Device}
 use Rattle.far_device.specs.Faults.{is_fault}
@@ -31,7 +31,7 @@ use Rattle.far_book.specs.book.Ledger.{MayTakeAgain, TakesAgain}
 use Rattle.far_book.specs.book.Own.{own_part}
 use Rattle.far_hand.specs.Came.{Came}
 use Rattle.far_hand.specs.Finds.{body_of}
-use Rattle.far_core.proofs.Put.{put_same}
+use Rattle.far_events.proofs.Put.{put_same}
 use Rattle.far_hand.proofs.Finding.{finds_more, some_found}
 use Rattle.far_hand.proofs.Closure.{then_came}
 use Rattle.far_book.proofs.region.Calls.{ends, may_take_again, placeable, taken_again}

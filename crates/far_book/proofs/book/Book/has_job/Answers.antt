@@ -1,8 +1,8 @@
 use Rattle.far_book.proofs.book.Book.has_job.Goals as goal
 use Rattle.std.proofs.Common.{◌≡◌, ◌∙◌, ap, subst, true}
 use Rattle.far_word.specs.Pointer.{read_of}
-use Rattle.far_core.specs.state.Jobs.{near_place}
-use Rattle.far_core.specs.state.State.{State}
+use Rattle.far_events.specs.state.Jobs.{near_place}
+use Rattle.far_events.specs.state.State.{State}
 use Rattle.far_book.specs.book.BookOf.{BookOf}
 use Rattle.far_book.specs.book.Jobs.{HasJob, has_job}
 use Rattle.far_book.proofs.region.HavingJobs.{answers, has_means}

@@ -1,18 +1,18 @@
 use Rattle.far_book.proofs.book.Book.locate.Goals as goal
 use Rattle.std.proofs.Common.{ap, sym, subst, ◌∙◌, arith, refl, ◌≡◌}
 use Rattle.far_word.specs.Pointer.{read_of}
-use Rattle.far_core.specs.declared.event.Event.TheVariants.{See}
-use Rattle.far_core.specs.declared.event.Reply.TheVariants.{Word}
+use Rattle.far_events.specs.declared.event.Event.TheVariants.{See}
+use Rattle.far_events.specs.declared.event.Reply.TheVariants.{Word}
 use Rattle.far_hand.specs.Finds.{Finds}
 use Rattle.far_book.specs.book.Calls.{FindsHome}
 use Rattle.far_book.specs.book.Home.{home_of}
 use Rattle.far_book.specs.book.Renaming.{seen}
-use Rattle.far_core.specs.state.State.{State}
+use Rattle.far_events.specs.state.State.{State}
 use Rattle.far_book.specs.book.BookOf.{BookOf}
 use Rattle.far_book.specs.book.FarSide.{InOrder}
 use Rattle.far_book.proofs.region.Founds.{no_home, free_home, home_none, none_home}
 use Rattle.far_book.proofs.region.InOrders.{found_keeps}
-use Rattle.far_core.proofs.Put.{put_same}
+use Rattle.far_events.proofs.Put.{put_same}
 use Rattle.far_hand.proofs.Finding.{some_found}
 use Rattle.far_hand.proofs.Closure.{first_call}
 use Rattle.far_hand.proofs.Sight.{told_cell}

@@ -1,10 +1,10 @@
 use Rattle.far_book.proofs.book.Book.look.Goals as goal
 use Rattle.std.proofs.Common.{refl, sym, subst}
-use Rattle.far_core.specs.declared.event.Event.TheVariants.{Look}
-use Rattle.far_core.specs.events.Legal.{Legal}
+use Rattle.far_events.specs.declared.event.Event.TheVariants.{Look}
+use Rattle.far_events.specs.events.Legal.{Legal}
 use Rattle.far_book.specs.book.BookOf.{BookOf}
 use Rattle.far_book.specs.book.HandedOn.{LooksAtScope}
-use Rattle.far_core.specs.state.State.{State}
+use Rattle.far_events.specs.state.State.{State}
 use Rattle.far_book.specs.book.FarSide.{InOrder}
 use Rattle.far_book.proofs.region.Rounding.{looked_keeps}
 use Rattle.far_hand.proofs.Closure.{first_call}

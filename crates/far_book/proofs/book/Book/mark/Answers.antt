@@ -1,9 +1,9 @@
 use Rattle.far_book.proofs.book.Book.mark.Goals as goal
 use Rattle.std.proofs.Common.{refl, sym, subst, arith}
 use Rattle.far_book.specs.book.HandedOn.{MarksCell}
-use Rattle.far_core.specs.declared.event.Event.TheVariants.{Mark}
-use Rattle.far_core.specs.events.Legal.{Legal}
-use Rattle.far_core.specs.state.State.{State}
+use Rattle.far_events.specs.declared.event.Event.TheVariants.{Mark}
+use Rattle.far_events.specs.events.Legal.{Legal}
+use Rattle.far_events.specs.state.State.{State}
 use Rattle.far_book.specs.book.BookOf.{BookOf}
 use Rattle.far_book.specs.book.FarSide.{InOrder}
 use Rattle.far_book.proofs.region.Marked.{found_marked}

@@ -1,7 +1,7 @@
 use Rattle.far_book.proofs.book.Book.new.Goals as goal
 use Rattle.std.proofs.Common.{◌≡◌, subst, ap, sym, ◌∙◌}
 use Rattle.std.specs.Prelude.{false}
-use Rattle.far_core.specs.state.Opening.{for_copiers, opening}
+use Rattle.far_events.specs.state.Opening.{for_copiers, opening}
 use Rattle.far_book.specs.book.Ledger.{Notes}
 use Rattle.far_book.specs.book.Own.{own_part}
 use Rattle.far_book.proofs.region.InOrders.{none_far}

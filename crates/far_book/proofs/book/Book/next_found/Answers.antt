@@ -6,8 +6,8 @@ use Rattle.std.specs.Prelude.{◌⊎◌}
 use Rattle.far_word.specs.declared.sizes.TheConstants.{LOG_WORDS}
 use Rattle.far_word.specs.Sizes.{size_of}
 use Rattle.far_log.specs.declared.span.Span.{Span}
-use Rattle.far_core.specs.state.State.{State}
-use Rattle.far_core.proofs.Put.{put_same}
+use Rattle.far_events.specs.state.State.{State}
+use Rattle.far_events.proofs.Put.{put_same}
 use Rattle.far_book.specs.book.NextLive.{IsBoundary, IsNamedBetween, live_from}
 use Rattle.far_book.proofs.region.NextLives.{Step, begun, below_tail, ended, found_more, here_dead, here_lies, here_live, here_next, here_reads, kept_more, none_more, others_more}
 use Rattle.far_hand.proofs.Closure.{no_call, then_came, came_only}

@@ -1,7 +1,7 @@
 use Rattle.far_book.proofs.book.Book.none_lives.Goals as goal
 use Rattle.std.proofs.Common.{◌≡◌, ◌<◌, ◌∙◌, ℕ, [], ap, sym, subst}
 use Rattle.std.proofs.lemmas.Bool.{eqb-true}
-use Rattle.far_core.specs.state.State.{State}
+use Rattle.far_events.specs.state.State.{State}
 use Rattle.far_book.specs.book.BookOf.{BookOf}
 use Rattle.far_book.specs.book.NextLive.{live_from}
 use Rattle.far_book.specs.book.Own.{own_part}

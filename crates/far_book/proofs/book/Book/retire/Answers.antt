@@ -2,8 +2,8 @@ use Rattle.far_book.proofs.book.Book.retire.Goals as goal
 use Rattle.std.proofs.Common.{◌≡◌, ◌∙◌, ◌<◌, ◌*◌, ap, sym, subst, false, true}
 use Rattle.far_word.specs.declared.sizes.TheConstants.{CELLS}
 use Rattle.far_word.specs.Pointer.{read_of}
-use Rattle.far_core.specs.events.Naming.{is_dropped}
-use Rattle.far_core.specs.state.State.{State}
+use Rattle.far_events.specs.events.Naming.{is_dropped}
+use Rattle.far_events.specs.state.State.{State}
 use Rattle.far_device.specs.Following.{Follows, other_than}
 use Rattle.far_hand.specs.Known.{Forgets}
 use Rattle.far_book.specs.book.BookOf.{BookOf}

@@ -2,7 +2,7 @@ use Rattle.far_book.proofs.book.Book.see.Goals as goal
 use Rattle.std.proofs.Common.{refl, sym, subst, arith}
 use Rattle.far_book.specs.book.BookOf.{BookOf}
 use Rattle.far_book.specs.book.HandedOn.{SeesCell}
-use Rattle.far_core.specs.state.State.{State}
+use Rattle.far_events.specs.state.State.{State}
 use Rattle.far_book.specs.book.FarSide.{InOrder}
 use Rattle.far_book.proofs.region.InOrders.{found_keeps}
 use Rattle.far_hand.proofs.Closure.{first_call}

@@ -1,6 +1,6 @@
 use Rattle.far_book.proofs.book.Book.see_job.Goals as goal
 use Rattle.std.proofs.Common.{◌∙◌, ap, arith, subst, sym}
-use Rattle.far_core.specs.state.State.{State}
+use Rattle.far_events.specs.state.State.{State}
 use Rattle.far_hand.specs.FindsJob.{FindsJob, job_found}
 use Rattle.far_book.specs.book.BookOf.{BookOf}
 use Rattle.far_book.specs.book.FarSide.{InOrder}

@@ -5,10 +5,10 @@ use Rattle.std.specs.Vec.{vec_capacity}
 use Rattle.far_word.specs.declared.sizes.TheConstants.{CELLS}
 use Rattle.far_word.specs.Bytes.{bytes_of}
 use Rattle.far_word.specs.Sizes.{words_for}
-use Rattle.far_core.specs.events.Copies.{data_at}
+use Rattle.far_events.specs.events.Copies.{data_at}
 use Rattle.far_word.specs.Pointer.{read_of}
-use Rattle.far_core.specs.state.Law.{is_dirty}
-use Rattle.far_core.specs.state.State.{State}
+use Rattle.far_events.specs.state.Law.{is_dirty}
+use Rattle.far_events.specs.state.State.{State}
 use Rattle.far_device.specs.Following.{Follows, other_than}
 use Rattle.far_book.specs.book.Asking.{answer_of}
 use Rattle.far_book.specs.book.BookOf.{BookOf}

@@ -10,8 +10,8 @@ use Rattle.far_word.specs.declared.pointer.PtrWord.TheVariants.{Free, Near, Far}
 use Rattle.far_word.specs.declared.refused.Refused.{Refused}
 use Rattle.far_word.specs.declared.sizes.TheConstants.{CELLS}
 use Rattle.far_word.specs.Pointer.{read_of}
-use Rattle.far_core.specs.events.Naming.{is_dropped}
-use Rattle.far_core.specs.state.State.{State}
+use Rattle.far_events.specs.events.Naming.{is_dropped}
+use Rattle.far_events.specs.state.State.{State}
 use Rattle.far_book.specs.book.Dealing as dealing
 use Rattle.far_book.specs.book.Dealing.{FindsDrop, IsSeen, MovedBy, has_evac, moved_now, order_moved}
 use Rattle.far_book.specs.book.BookOf.{BookOf}

@@ -5,8 +5,8 @@ use Rattle.std.proofs.Common.{◌≡◌, ◌+◌, ◌*◌, ◌<◌, ◌∙◌, t
 use Rattle.far_word.specs.declared.sizes.TheConstants.{CELLS, LOG_WORDS}
 use Rattle.far_word.specs.Sizes.{size_of}
 use Rattle.far_log.specs.Spans.{span_at}
-use Rattle.far_core.specs.state.Spans.{word_in}
-use Rattle.far_core.specs.state.State.{State}
+use Rattle.far_events.specs.state.Spans.{word_in}
+use Rattle.far_events.specs.state.State.{State}
 use Rattle.far_hand.specs.Known.{IsKnown}
 use Rattle.far_book.specs.book.BookOf.{BookOf}
 use Rattle.far_book.specs.book.FarSide.{InOrder}

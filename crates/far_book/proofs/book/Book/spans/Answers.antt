@@ -2,8 +2,8 @@ use Rattle.far_book.proofs.book.Book.spans.Goals as goal
 use Rattle.std.proofs.Common.{◌≡◌, ◌∙◌, ◌<◌, ap, sym, subst, ℕ, true}
 use Rattle.std.specs.Prelude.{slice_index, IfOk}
 use Rattle.far_log.specs.Walk.{IsWalk}
-use Rattle.far_core.specs.state.Spans.{spans_of}
-use Rattle.far_core.specs.state.State.{State}
+use Rattle.far_events.specs.state.Spans.{spans_of}
+use Rattle.far_events.specs.state.State.{State}
 use Rattle.far_book.specs.book.BookOf.{BookOf}
 use Rattle.far_book.specs.book.Own.{own_part}
 use Rattle.far_book.proofs.region.InOrders.{headers_keep}

@@ -1,7 +1,7 @@
 use Rattle.far_book.proofs.book.Book.take_back.Goals as goal
 use Rattle.std.proofs.Common.{◌≡◌, ◌∙◌, ap, arith, refl, subst}
 use Rattle.far_word.specs.declared.sizes.TheConstants.{JOBS}
-use Rattle.far_core.specs.state.Jobs.{job_at}
+use Rattle.far_events.specs.state.Jobs.{job_at}
 use Rattle.far_book.specs.book.BookOf.{BookOf}
 use Rattle.far_book.specs.book.Collecting.{TakesBack, all_back}
 use Rattle.far_hand.proofs.Closure.{no_call, then_came}

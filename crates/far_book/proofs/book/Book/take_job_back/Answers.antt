@@ -6,9 +6,9 @@ use Rattle.std.specs.Prelude.{is_some, not}
 use Rattle.far_word.specs.declared.job.Job.{Job}
 use Rattle.far_word.specs.declared.job.JobWord.TheVariants.{Offered}
 use Rattle.far_word.specs.Job.{job_of}
-use Rattle.far_core.specs.events.Collect.{collected}
-use Rattle.far_core.specs.state.Jobs.{job_at}
-use Rattle.far_core.specs.state.State.{State}
+use Rattle.far_events.specs.events.Collect.{collected}
+use Rattle.far_events.specs.state.Jobs.{job_at}
+use Rattle.far_events.specs.state.State.{State}
 use Rattle.far_hand.specs.FindsJob.{FindsJob, job_found}
 use Rattle.far_hand.proofs.Closure.{no_call, then_came}
 use Rattle.far_hand.proofs.JobsFound.{job_more}

@@ -5,7 +5,7 @@ use Rattle.std.proofs.Common.{◌≡◌, ◌+◌, ◌*◌, ◌/◌, arith, refl}
 use Rattle.far_word.specs.declared.sizes.TheConstants.{LOG_WORDS}
 use Rattle.far_word.specs.Bytes.{packed_word}
 use Rattle.far_word.specs.Sizes.{words_for}
-use Rattle.far_core.specs.state.State.{addr}
+use Rattle.far_events.specs.state.State.{addr}
 use Rattle.far_hand.specs.Came.{Came, only}
 use Rattle.far_hand.proofs.Ranges.{may_put, word_rest, words_again, writes_rest}
 use Rattle.far_book.specs.book.Only.{Writes}

@@ -3,7 +3,7 @@ use Rattle.far_book.proofs.book.leaving.read_object.Goals.{After-get_words}
 use Rattle.far_book.proofs.book.leaving.read_object.Goals as goal
 use Rattle.std.proofs.Common.{◌≡◌, arith, subst}
 use Rattle.far_word.specs.Sizes.{words_for}
-use Rattle.far_core.specs.events.Copies.{data_at}
+use Rattle.far_events.specs.events.Copies.{data_at}
 use Rattle.far_book.specs.book.Evicting.{Learns}
 use Rattle.far_book.proofs.region.Learning.{bytes_front}
 use Rattle.far_book.proofs.region.LearningOn.{Known, bytes_known, row_known, row_reads, row_same}

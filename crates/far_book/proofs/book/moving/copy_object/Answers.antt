@@ -4,7 +4,7 @@ use Rattle.far_book.proofs.book.moving.copy_object.Goals as goal
 use Rattle.std.proofs.Common.{◌≡◌, ◌∙◌, ◌+◌, subst, sym, ap, arith, refl, ℕ}
 use Rattle.far_word.specs.Sizes.{words_for}
 use Rattle.far_word.specs.Header.{head_word}
-use Rattle.far_core.specs.state.State.{State, addr, put}
+use Rattle.far_events.specs.state.State.{State, addr, put}
 use Rattle.far_hand.specs.Ranges.{CopiesRow, IsPast, IsWithin}
 use Rattle.far_book.proofs.region.Copying.{copied, head, put_legal}
 use Rattle.far_book.proofs.region.CopyingMore.{may_read, may_write, row_came, row_copied, row_only}

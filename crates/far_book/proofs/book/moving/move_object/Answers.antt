@@ -6,12 +6,12 @@ use Rattle.std.specs.Prelude.{is_some}
 use Rattle.std.proofs.lemmas.Bool.{false≢true, true≢false}
 use Rattle.far_word.specs.declared.sizes.TheConstants.{CELLS}
 use Rattle.far_word.specs.Pointer.{read_of}
-use Rattle.far_core.specs.declared.event.Event.TheVariants.{Name}
-use Rattle.far_core.specs.events.Copies.{data_at}
-use Rattle.far_core.specs.events.Naming.{is_dropped}
-use Rattle.far_core.specs.events.Step.{after}
-use Rattle.far_core.specs.state.Law.{is_dirty}
-use Rattle.far_core.specs.state.State.{State}
+use Rattle.far_events.specs.declared.event.Event.TheVariants.{Name}
+use Rattle.far_events.specs.events.Copies.{data_at}
+use Rattle.far_events.specs.events.Naming.{is_dropped}
+use Rattle.far_events.specs.events.Step.{after}
+use Rattle.far_events.specs.state.Law.{is_dirty}
+use Rattle.far_events.specs.state.State.{State}
 use Rattle.far_hand.specs.Finds.{Finds}
 use Rattle.far_book.specs.book.Dealing.{has_evac}
 use Rattle.far_book.specs.book.Effects.{moved, moved_of, near_word, with_written_span}

@@ -3,10 +3,10 @@ use Rattle.std.proofs.Common.{◌≡◌, ◌<◌, ◌^◌, ap, refl, sym, subst,
 use Rattle.std.specs.Prelude.{is_some}
 use Rattle.std.proofs.lemmas.Bool.{false≢true, true≢false}
 use Rattle.far_word.specs.Pointer.{read_of}
-use Rattle.far_core.specs.declared.event.Event.TheVariants.{Name}
-use Rattle.far_core.specs.events.Naming.{is_dropped}
-use Rattle.far_core.specs.events.Step.{after}
-use Rattle.far_core.specs.state.Law.{is_dirty}
+use Rattle.far_events.specs.declared.event.Event.TheVariants.{Name}
+use Rattle.far_events.specs.events.Naming.{is_dropped}
+use Rattle.far_events.specs.events.Step.{after}
+use Rattle.far_events.specs.state.Law.{is_dirty}
 use Rattle.far_hand.specs.Finds.{Finds}
 use Rattle.far_book.specs.book.Effects.{near_word, stayed_of}
 use Rattle.far_book.proofs.region.Moved.{layout_here, may_unmark, stayed_by}

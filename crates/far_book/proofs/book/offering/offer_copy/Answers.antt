@@ -1,8 +1,8 @@
 use Rattle.far_book.proofs.book.offering.offer_copy.Goals as goal
 use Rattle.std.proofs.Common.{subst, sym}
-use Rattle.far_core.specs.declared.event.Event.TheVariants as events
-use Rattle.far_core.specs.events.Legal.{Legal}
-use Rattle.far_core.specs.state.State.{State}
+use Rattle.far_events.specs.declared.event.Event.TheVariants as events
+use Rattle.far_events.specs.events.Legal.{Legal}
+use Rattle.far_events.specs.state.State.{State}
 use Rattle.far_hand.proofs.Closure.{first_call, then_call}
 use Rattle.far_book.proofs.region.OfferingCopies.{ends_second, offer_legal}
 

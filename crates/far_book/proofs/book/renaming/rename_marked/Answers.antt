@@ -1,7 +1,7 @@
 use Rattle.std.proofs.Common.{◌≡◌, ◌∙◌, sym, subst, ℕ, ap, arith, false, refl}
-use Rattle.far_core.specs.declared.event.Event.TheVariants.{Name}
-use Rattle.far_core.specs.events.Step.{after}
-use Rattle.far_core.specs.state.State.{State, put}
+use Rattle.far_events.specs.declared.event.Event.TheVariants.{Name}
+use Rattle.far_events.specs.events.Step.{after}
+use Rattle.far_events.specs.state.State.{State, put}
 use Rattle.far_hand.proofs.Finding.{finds_more, some_found}
 use Rattle.far_book.specs.book.Renaming.{seen, stops}
 use Rattle.far_hand.specs.Finds.{Finds}

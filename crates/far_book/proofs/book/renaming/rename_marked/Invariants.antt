@@ -1,6 +1,6 @@
 use Rattle.std.proofs.Common.{◌≡◌, ◌≤◌, ◌<◌, ◌^◌, true, false, IsSome}
 use Rattle.far_word.specs.Pointer.{read_of}
-use Rattle.far_core.specs.state.Law.{is_dirty}
+use Rattle.far_events.specs.state.Law.{is_dirty}
 use Rattle.far_hand.specs.Came.{Came, only}
 use Rattle.far_hand.specs.Finds.{Finds}
 use Rattle.far_book.specs.book.Only.{Names}

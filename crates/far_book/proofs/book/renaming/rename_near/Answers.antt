@@ -3,10 +3,10 @@ use Rattle.far_book.proofs.book.renaming.rename_near.Goals.{After-rename, Else-i
 use Rattle.far_book.proofs.book.renaming.rename_near.Goals as goal
 use Rattle.std.proofs.Common.{◌≡◌, ◌∙◌, IfOk, ap, arith, subst, sym, false, true}
 use Rattle.far_word.specs.Pointer.{read_of}
-use Rattle.far_core.specs.declared.event.Event.TheVariants.{Name}
-use Rattle.far_core.specs.events.Naming.{is_dropped}
-use Rattle.far_core.specs.events.Step.{after}
-use Rattle.far_core.specs.state.Law.{is_dirty}
+use Rattle.far_events.specs.declared.event.Event.TheVariants.{Name}
+use Rattle.far_events.specs.events.Naming.{is_dropped}
+use Rattle.far_events.specs.events.Step.{after}
+use Rattle.far_events.specs.state.Law.{is_dirty}
 use Rattle.far_hand.specs.Came.{Came, only}
 use Rattle.far_hand.specs.Finds.{Finds}
 use Rattle.far_hand.proofs.Closure.{then_came}

@@ -1,9 +1,10 @@
 use Rattle.std.proofs.Common.{◌≡◌, ◌<◌, ◌*◌, ◌/◌, ◌∙◌, ℕ, arith, refl, sym}
 use Rattle.std.proofs.lemmas.Bool.{false≢true}
 use Rattle.far_word.specs.declared.sizes.TheConstants.{CELLS}
-use Rattle.far_core.specs.declared.event.Event.TheVariants.{Adopt}
-use Rattle.far_core.specs.state.Memory.{state_of}
-use Rattle.far_core.proofs.Calls.{law_after, next_is_after}
+use Rattle.far_events.specs.declared.event.Event.TheVariants.{Adopt}
+use Rattle.far_events.specs.state.Memory.{state_of}
+use Rattle.far_core.proofs.Calls.{law_after}
+use Rattle.far_events.proofs.Calls.{next_is_after}
 use Rattle.far_core.proofs.Kept.{rows_after}
 use Rattle.far_core.proofs.machine.Core.adopt.Goals as goal
 

@@ -1,4 +1,4 @@
-use Rattle.far_core.specs.state.Memory.{state_of}
+use Rattle.far_events.specs.state.Memory.{state_of}
 use Rattle.far_core.proofs.LiveLaws.{live_bytes_are, live_is}
 use Rattle.far_core.proofs.Observations.{bytes_make_log}
 use Rattle.far_core.proofs.machine.Core.bytes_make_log.Goals as goal

@@ -1,9 +1,9 @@
 use Rattle.std.proofs.Common.{ap, sym, ◌∙◌}
 use Rattle.far_word.specs.Pointer.{read_of}
-use Rattle.far_core.specs.events.Pin.{place_to_view}
-use Rattle.far_core.specs.state.Memory.{state_of}
+use Rattle.far_events.specs.events.Pin.{place_to_view}
+use Rattle.far_events.specs.state.Memory.{state_of}
 use Rattle.far_core.proofs.Accesses.{cold_end, cold_keep, cold_legal, cold_same, cold_state}
-use Rattle.far_core.proofs.Bounds.{some_of}
+use Rattle.far_events.proofs.Bounds.{some_of}
 use Rattle.far_core.proofs.Kept.{rows_same}
 use Rattle.far_core.proofs.machine.Core.cool.Goals as goal
 

@@ -1,6 +1,6 @@
 use Rattle.std.proofs.Common.{ap, sym, ◌∙◌}
-use Rattle.far_core.specs.state.Memory.{state_of}
-use Rattle.far_core.specs.state.State.{State}
+use Rattle.far_events.specs.state.Memory.{state_of}
+use Rattle.far_events.specs.state.State.{State}
 use Rattle.far_core.proofs.Accesses.{heats_end, heats_keep, heats_legal}
 use Rattle.far_core.proofs.Kept.{rows_same}
 use Rattle.far_core.proofs.machine.Core.heat.Goals as goal

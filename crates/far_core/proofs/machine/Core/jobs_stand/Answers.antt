@@ -1,4 +1,4 @@
-use Rattle.far_core.specs.state.Memory.{state_of}
+use Rattle.far_events.specs.state.Memory.{state_of}
 use Rattle.far_core.proofs.JobLaws.{jobs_stand}
 use Rattle.far_core.proofs.machine.Core.jobs_stand.Goals as goal
 

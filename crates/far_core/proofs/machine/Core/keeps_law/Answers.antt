@@ -1,4 +1,4 @@
-use Rattle.far_core.specs.state.Memory.{state_of}
+use Rattle.far_events.specs.state.Memory.{state_of}
 use Rattle.far_core.proofs.Steps.{agrees}
 use Rattle.far_core.proofs.machine.Core.keeps_law.Goals as goal
 

@@ -1,5 +1,5 @@
 use Rattle.std.proofs.Common.{◌+◌, arith}
-use Rattle.far_core.specs.state.Memory.{state_of}
+use Rattle.far_events.specs.state.Memory.{state_of}
 use Rattle.far_core.proofs.Calls.{load_legal}
 use Rattle.far_core.proofs.machine.Core.load_all.Goals as goal
 

@@ -1,7 +1,8 @@
 use Rattle.std.proofs.Common.{◌<◌, ◌≤◌, ◌*◌, ℕ, arith, refl, sym}
 use Rattle.far_word.specs.declared.sizes.TheConstants.{CELLS, LEAST_LOGS, MOST_MUTATORS, POINTERS}
-use Rattle.far_core.specs.state.Memory.{state_of}
-use Rattle.far_core.proofs.Begins.{begins, in_range}
+use Rattle.far_events.specs.state.Memory.{state_of}
+use Rattle.far_core.proofs.Begins.{begins}
+use Rattle.far_events.proofs.Begins.{in_range}
 use Rattle.far_core.proofs.Steps.{agrees}
 use Rattle.far_core.proofs.WorldFacts.{opening_world}
 use Rattle.far_core.proofs.machine.Core.made.Goals as goal

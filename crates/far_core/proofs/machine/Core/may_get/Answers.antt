@@ -1,5 +1,5 @@
-use Rattle.far_core.specs.declared.event.Event.TheVariants.{Get}
-use Rattle.far_core.specs.state.Memory.{state_of}
+use Rattle.far_events.specs.declared.event.Event.TheVariants.{Get}
+use Rattle.far_events.specs.state.Memory.{state_of}
 use Rattle.far_core.proofs.Calls.{test_is_guard}
 use Rattle.far_core.proofs.machine.Core.may_get.Goals as goal
 

@@ -1,7 +1,7 @@
 use Rattle.std.proofs.Common.{ap}
 use Rattle.std.specs.Prelude.{is_some}
-use Rattle.far_core.specs.declared.event.Event.TheVariants.{Name}
-use Rattle.far_core.specs.state.Memory.{state_of}
+use Rattle.far_events.specs.declared.event.Event.TheVariants.{Name}
+use Rattle.far_events.specs.state.Memory.{state_of}
 use Rattle.far_core.proofs.Calls.{test_is_guard}
 use Rattle.far_core.proofs.machine.Core.may_name.Goals as goal
 

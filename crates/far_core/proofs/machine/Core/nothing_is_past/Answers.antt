@@ -1,5 +1,6 @@
-use Rattle.far_core.specs.state.Memory.{state_of}
-use Rattle.far_core.proofs.Ends.{has_nothing_past, is_what_is_within}
+use Rattle.far_events.specs.state.Memory.{state_of}
+use Rattle.far_events.proofs.Ends.{has_nothing_past}
+use Rattle.far_core.proofs.Ends.{is_what_is_within}
 use Rattle.far_core.proofs.machine.Core.nothing_is_past.Goals as goal
 
 pub returns-clause-past : goal.returns-clause-past

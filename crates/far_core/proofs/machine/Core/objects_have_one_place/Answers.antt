@@ -1,4 +1,4 @@
-use Rattle.far_core.specs.state.Memory.{state_of}
+use Rattle.far_events.specs.state.Memory.{state_of}
 use Rattle.far_core.proofs.ObjectFacts.{object_agrees}
 use Rattle.far_core.proofs.Observations.{has_one_place, names_once, near_has_one_live}
 use Rattle.far_core.proofs.WorldFacts.{marks_agree, marks_exist, view_rests}

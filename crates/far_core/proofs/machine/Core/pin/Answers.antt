@@ -1,7 +1,8 @@
 use Rattle.std.proofs.Common.{◌∙◌, refl}
-use Rattle.far_core.specs.declared.event.Event.TheVariants.{Pin}
-use Rattle.far_core.specs.state.Memory.{state_of}
-use Rattle.far_core.proofs.Calls.{law_after, next_is_after}
+use Rattle.far_events.specs.declared.event.Event.TheVariants.{Pin}
+use Rattle.far_events.specs.state.Memory.{state_of}
+use Rattle.far_core.proofs.Calls.{law_after}
+use Rattle.far_events.proofs.Calls.{next_is_after}
 use Rattle.far_core.proofs.Kept.{rows_after}
 use Rattle.far_core.proofs.machine.Core.pin.Goals as goal
 

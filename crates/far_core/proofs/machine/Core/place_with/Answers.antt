@@ -1,6 +1,6 @@
 use Rattle.std.proofs.Common.{◌∙◌, ap, sym}
-use Rattle.far_core.specs.state.Memory.{state_of}
-use Rattle.far_core.specs.state.State.{State}
+use Rattle.far_events.specs.state.Memory.{state_of}
+use Rattle.far_events.specs.state.State.{State}
 use Rattle.far_core.proofs.Kept.{rows_same}
 use Rattle.far_core.proofs.NewObjects.{MayMake, layout, made_end, made_keep, made_legal, pointer}
 use Rattle.far_core.proofs.machine.Core.place_with.Goals as goal

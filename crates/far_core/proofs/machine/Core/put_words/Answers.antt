@@ -1,10 +1,10 @@
 use Rattle.std.proofs.Common.{sym, ◌∙◌, ap}
 use Rattle.far_word.specs.Bytes.{packed_word}
-use Rattle.far_core.specs.state.Memory.{state_of}
-use Rattle.far_core.proofs.PackedRows.{packed_fits}
+use Rattle.far_events.specs.state.Memory.{state_of}
+use Rattle.far_events.proofs.PackedRows.{packed_fits}
 use Rattle.far_core.proofs.Ranges.{puts_end, puts_keep, puts_legal}
 use Rattle.far_core.proofs.Kept.{rows_same}
-use Rattle.far_core.specs.state.State.{State}
+use Rattle.far_events.specs.state.State.{State}
 use Rattle.far_core.proofs.machine.Core.put_words.Goals as goal
 
 pub invariant_of-self : goal.invariant_of-self

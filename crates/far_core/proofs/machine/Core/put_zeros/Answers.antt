@@ -1,8 +1,8 @@
 use Rattle.std.proofs.Common.{sym, ◌∙◌, ap}
-use Rattle.far_core.specs.state.Memory.{state_of}
+use Rattle.far_events.specs.state.Memory.{state_of}
 use Rattle.far_core.proofs.Ranges.{zeros_end, zeros_keep, zeros_legal}
 use Rattle.far_core.proofs.Kept.{rows_same}
-use Rattle.far_core.specs.state.State.{State}
+use Rattle.far_events.specs.state.State.{State}
 use Rattle.far_core.proofs.machine.Core.put_zeros.Goals as goal
 
 pub invariant_of-self : goal.invariant_of-self

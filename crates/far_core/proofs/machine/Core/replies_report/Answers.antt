@@ -1,4 +1,4 @@
-use Rattle.far_core.specs.state.Memory.{state_of}
+use Rattle.far_events.specs.state.Memory.{state_of}
 use Rattle.far_core.proofs.Owing.{refusals_report_nothing, replies_report, is_fact, is_test}
 use Rattle.far_core.proofs.machine.Core.replies_report.Goals as goal
 

@@ -1,4 +1,4 @@
-use Rattle.far_core.specs.state.Memory.{state_of}
+use Rattle.far_events.specs.state.Memory.{state_of}
 use Rattle.far_core.proofs.RoomLaws.{room_right}
 use Rattle.far_core.proofs.machine.Core.room_is_right.Goals as goal
 

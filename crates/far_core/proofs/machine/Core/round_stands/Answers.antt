@@ -1,4 +1,4 @@
-use Rattle.far_core.specs.state.Memory.{state_of}
+use Rattle.far_events.specs.state.Memory.{state_of}
 use Rattle.far_core.proofs.RoundFacts.{round_stands}
 use Rattle.far_core.proofs.machine.Core.round_stands.Goals as goal
 

@@ -3,7 +3,7 @@ use Rattle.std.specs.Prelude.{map}
 use Rattle.far_core.specs.state.Kept.{keeps_stored, tells_all}
 use Rattle.far_core.specs.state.CoreState.{core_state}
 use Rattle.far_core.specs.world.Runs.{Leads, Runs}
-use Rattle.far_core.specs.state.State.{State}
+use Rattle.far_events.specs.state.State.{State}
 use Rattle.far_core.specs.world.WorldOf.{world_of}
 use Rattle.far_core.proofs.machine.Core.run.Given as goal
 

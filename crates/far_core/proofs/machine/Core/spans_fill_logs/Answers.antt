@@ -1,4 +1,4 @@
-use Rattle.far_core.specs.state.Memory.{state_of}
+use Rattle.far_events.specs.state.Memory.{state_of}
 use Rattle.far_core.proofs.Observations.{walks, of_heap, logs_stand, placed_exactly, word_has_no_span, word_has_one_span}
 use Rattle.far_core.proofs.machine.Core.spans_fill_logs.Goals as goal
 

@@ -2,7 +2,7 @@ use Rattle.std.proofs.Common.{◌∙◌, sym}
 use Rattle.std.proofs.lemmas.Bool.{false≢true}
 use Rattle.far_core.specs.state.CoreState.{core_state}
 use Rattle.far_core.specs.state.Kept.{tells}
-use Rattle.far_core.specs.state.Memory.{state_of}
+use Rattle.far_events.specs.state.Memory.{state_of}
 use Rattle.far_core.proofs.Kept.{rows_stepped, tells_other}
 use Rattle.far_core.proofs.Steps.{agrees, happens, happens_told, made, made_only, passes, turned}
 use Rattle.far_core.proofs.machine.Core.step.Goals as goal

@@ -1,7 +1,8 @@
 use Rattle.std.proofs.Common.{◌∙◌, refl}
-use Rattle.far_core.specs.declared.event.Event.TheVariants.{Store}
-use Rattle.far_core.specs.state.Memory.{state_of}
-use Rattle.far_core.proofs.Calls.{next_is_after, soiled_held, store_keeps_law}
+use Rattle.far_events.specs.declared.event.Event.TheVariants.{Store}
+use Rattle.far_events.specs.state.Memory.{state_of}
+use Rattle.far_events.proofs.Calls.{next_is_after, soiled_held}
+use Rattle.far_core.proofs.Calls.{store_keeps_law}
 use Rattle.far_core.proofs.Kept.{rows_after}
 use Rattle.far_core.proofs.machine.Core.store.Goals as goal
 

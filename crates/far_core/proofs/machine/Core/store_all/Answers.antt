@@ -1,9 +1,9 @@
 use Rattle.std.proofs.Common.{length, sym, ◌∙◌, ap}
 use Rattle.std.specs.Prelude.{slice_index}
-use Rattle.far_core.specs.state.Memory.{state_of}
+use Rattle.far_events.specs.state.Memory.{state_of}
 use Rattle.far_core.proofs.Ranges.{stored_at, stored_beside, stores_end, stores_keep, stores_legal}
 use Rattle.far_core.proofs.Kept.{rows_same}
-use Rattle.far_core.specs.state.State.{State}
+use Rattle.far_events.specs.state.State.{State}
 use Rattle.far_core.proofs.machine.Core.store_all.Goals as goal
 
 pub invariant_of-self : goal.invariant_of-self

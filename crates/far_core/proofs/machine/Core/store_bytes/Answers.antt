@@ -1,13 +1,13 @@
 use Rattle.std.proofs.Common.{◌∙◌, ◌/◌, ◌<◌, ℕ, List, ap, get_or, sym}
-use Rattle.far_core.specs.events.Step.{data_word}
-use Rattle.far_core.specs.state.Memory.{state_of}
-use Rattle.far_core.specs.events.Written.{written_words}
-use Rattle.far_core.proofs.Calls.{soiled_held}
+use Rattle.far_events.specs.events.Step.{data_word}
+use Rattle.far_events.specs.state.Memory.{state_of}
+use Rattle.far_events.specs.events.Written.{written_words}
+use Rattle.far_events.proofs.Calls.{soiled_held}
 use Rattle.far_core.proofs.DataBytes.{bytes_after, others_after, written_inside, written_pad}
 use Rattle.far_core.proofs.Ranges.{stores_end, stores_keep, stores_legal}
-use Rattle.far_core.proofs.Splices.{written_fit}
+use Rattle.far_events.proofs.Splices.{written_fit}
 use Rattle.far_core.proofs.Kept.{rows_same}
-use Rattle.far_core.specs.state.State.{State}
+use Rattle.far_events.specs.state.State.{State}
 use Rattle.far_core.proofs.machine.Core.store_bytes.Goals as goal
 
 pub invariant_of-self : goal.invariant_of-self

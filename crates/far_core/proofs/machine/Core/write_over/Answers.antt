@@ -1,13 +1,13 @@
 use Rattle.std.proofs.Common.{◌∙◌, ap, refl, sym}
 use Rattle.far_word.specs.Pointer.{read_of}
-use Rattle.far_core.specs.events.Accesses.{written_word}
-use Rattle.far_core.specs.events.Pin.{place_to_view}
-use Rattle.far_core.specs.state.Memory.{state_of}
-use Rattle.far_core.specs.state.State.{State}
+use Rattle.far_events.specs.events.Accesses.{written_word}
+use Rattle.far_events.specs.events.Pin.{place_to_view}
+use Rattle.far_events.specs.state.Memory.{state_of}
+use Rattle.far_events.specs.state.State.{State}
 use Rattle.far_core.proofs.Accesses.{over_bytes, over_end, over_keep, over_legal, still_rests}
-use Rattle.far_core.proofs.Bounds.{some_of}
+use Rattle.far_events.proofs.Bounds.{some_of}
 use Rattle.far_core.proofs.Kept.{rows_same}
-use Rattle.far_core.proofs.Put.{put_same}
+use Rattle.far_events.proofs.Put.{put_same}
 use Rattle.far_core.proofs.machine.Core.write_over.Goals as goal
 
 pub invariant_of-self : goal.invariant_of-self

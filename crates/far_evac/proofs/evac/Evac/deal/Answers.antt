@@ -2,7 +2,7 @@ use Rattle.std.proofs.Common.{◌∙◌, ap, sym, refl, subst}
 use Rattle.std.specs.Prelude.{Bool, Err, false}
 use Rattle.far_word.specs.Pointer.{read_of}
 use Rattle.far_device.specs.Following.{Follows, other_than}
-use Rattle.far_core.specs.state.Law.{Law}
+use Rattle.far_events.specs.state.Law.{Law}
 use Rattle.far_book.specs.book.Asking.{AsksToEvict}
 use Rattle.far_book.specs.book.Dealing.{is_failure}
 use Rattle.far_book.specs.book.Own.{own_part}

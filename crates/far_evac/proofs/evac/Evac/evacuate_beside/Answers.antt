@@ -4,7 +4,7 @@ use Rattle.far_word.specs.declared.refused.Refused.{Refused}
 use Rattle.far_word.specs.declared.sizes.TheConstants.{JOBS, MOST_LOGS}
 use Rattle.far_device.specs.Following.{Follows, none_of}
 use Rattle.far_device.proofs.Following.{follows_still}
-use Rattle.far_core.specs.state.State.{State}
+use Rattle.far_events.specs.state.State.{State}
 use Rattle.far_hand.proofs.Closure.{then_came}
 use Rattle.far_book.specs.book.Dealing.{is_failure}
 use Rattle.far_evac.specs.declared.answers.Progress.{Progress}

@@ -1,7 +1,7 @@
 use Rattle.std.proofs.Common.{◌≡◌, ◌+◌, ◌<◌, ◌≤◌, ◌∙◌, ◌∷◌, [], cond, length, arith, ap, refl, sym, subst}
 use Rattle.std.proofs.lemmas.Bool.Decides.{nat_tests}
 use Rattle.far_book.specs.book.Releasing.{order_without, released}
-use Rattle.far_core.specs.events.Get.{IsUncopied, IsVacant}
+use Rattle.far_events.specs.events.Get.{IsUncopied, IsVacant}
 use Rattle.far_evac.specs.AnyHand.{Knows}
 use Rattle.far_evac.specs.EvacOf.{EvacOf}
 use Rattle.far_evac.specs.Live.{is_empty, live_in}

@@ -1,6 +1,6 @@
 use Rattle.std.proofs.Common.{◌≡◌, ◌*◌, length, ap, refl, rules, sym, ◌∙◌, arith}
 use Rattle.far_word.specs.declared.sizes.TheConstants.{CELLS}
-use Rattle.far_core.specs.state.State.{State}
+use Rattle.far_events.specs.state.State.{State}
 use Rattle.far_hand.proofs.Closure.{no_call, then_call}
 use Rattle.far_evac.proofs.Auditing.{found_more, listed, listed_dropped, listed_none, listed_one, same_but_near}
 use Rattle.far_evac.proofs.Walks.{knows_same}

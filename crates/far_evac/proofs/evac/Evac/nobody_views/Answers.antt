@@ -1,5 +1,5 @@
 use Rattle.std.proofs.Common.{ap, ◌∙◌}
-use Rattle.far_core.specs.state.State.{State}
+use Rattle.far_events.specs.state.State.{State}
 use Rattle.far_evac.specs.EvacOf.{moment}
 use Rattle.far_evac.specs.MomentLaw.{has_risen}
 use Rattle.far_evac.proofs.Unviewed.{clear_views_nothing}

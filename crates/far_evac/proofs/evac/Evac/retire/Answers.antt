@@ -1,6 +1,6 @@
 use Rattle.std.proofs.Common.{◌≡◌, true, sym, subst, ap, ◌*◌, ◌<◌}
 use Rattle.far_word.specs.Pointer.{read_of}
-use Rattle.far_core.specs.events.Naming.{is_dropped}
+use Rattle.far_events.specs.events.Naming.{is_dropped}
 use Rattle.far_evac.specs.EvacOf.{EvacOf}
 use Rattle.far_evac.proofs.Handing.{object_ended}
 use Rattle.far_word.specs.declared.sizes.TheConstants.{CELLS}

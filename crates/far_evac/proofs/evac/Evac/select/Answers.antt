@@ -2,7 +2,7 @@ use Rattle.far_evac.proofs.evac.Evac.select.Goals as goal
 use Rattle.std.proofs.Common.{◌≡◌, ◌≢◌, ◌∙◌, ◌+◌, ap, sym, refl, arith, rules}
 use Rattle.std.proofs.lemmas.Bool.Decides.{nat_tests}
 use Rattle.far_word.specs.declared.sizes.TheConstants.{EPOCH_END}
-use Rattle.far_core.specs.declared.shape.Shape.{Shape}
+use Rattle.far_events.specs.declared.shape.Shape.{Shape}
 use Rattle.far_evac.specs.Standing.{collection_in}
 use Rattle.far_evac.specs.declared.phase.Phase.TheVariants.{Marking}
 use Rattle.far_evac.proofs.HeldJobs.{jobs_left, keeps_same}

@@ -3,8 +3,8 @@ use Rattle.far_word.specs.declared.sizes.TheConstants.{CELLS}
 use Rattle.far_word.specs.Pointer.{read_of}
 use Rattle.far_device.specs.Following.{Follows, other_than}
 use Rattle.far_device.proofs.Following.{follows_itself}
-use Rattle.far_core.specs.events.Naming.{is_dropped}
-use Rattle.far_core.specs.state.State.{State}
+use Rattle.far_events.specs.events.Naming.{is_dropped}
+use Rattle.far_events.specs.state.State.{State}
 use Rattle.far_hand.specs.Finds.{Finds}
 use Rattle.far_hand.proofs.Closure.{then_came}
 use Rattle.far_hand.proofs.Finding.{finds_is}

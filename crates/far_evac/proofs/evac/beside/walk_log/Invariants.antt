@@ -1,7 +1,7 @@
 use Rattle.std.proofs.Common.{◌≡◌, ◌+◌, ◌-◌, ◌≤◌, ◌++◌, List, ℕ, false}
 use Rattle.far_word.specs.declared.sizes.TheConstants.{LOG_WORDS}
 use Rattle.far_device.specs.Following.{Follows, none_of}
-use Rattle.far_core.specs.state.Law.{Law}
+use Rattle.far_events.specs.state.Law.{Law}
 use Rattle.far_hand.specs.Came.{Came}
 use Rattle.far_book.specs.book.NextLive.{IsBoundary, live_from}
 use Rattle.far_book.specs.book.Own.{own_part}

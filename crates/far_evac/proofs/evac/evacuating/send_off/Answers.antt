@@ -4,9 +4,9 @@ use Rattle.far_book.specs.book.BookOf.{BookOf}
 use Rattle.far_word.specs.declared.sizes.TheConstants.{CELLS}
 use Rattle.far_word.specs.Pointer.{read_of}
 use Rattle.far_device.specs.Following.{Follows, other_than}
-use Rattle.far_core.specs.events.Naming.{is_dropped}
-use Rattle.far_core.specs.state.Law.{is_dirty}
-use Rattle.far_core.specs.state.State.{State}
+use Rattle.far_events.specs.events.Naming.{is_dropped}
+use Rattle.far_events.specs.state.Law.{is_dirty}
+use Rattle.far_events.specs.state.State.{State}
 use Rattle.far_hand.proofs.Closure.{then_came}
 use Rattle.far_hand.proofs.Finding.{some_found}
 use Rattle.far_book.specs.book.Dealing.{has_evac, is_failure}

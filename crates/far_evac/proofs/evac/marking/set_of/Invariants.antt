@@ -1,5 +1,5 @@
 use Rattle.std.proofs.Common.{◌≡◌, ℕ, take}
-use Rattle.far_core.specs.events.Advance.{is_among}
+use Rattle.far_events.specs.events.Advance.{is_among}
 use Rattle.far_evac.specs.RoundSteps.{among}
 use Rattle.far_evac.proofs.evac.marking.set_of.Given as goal
 

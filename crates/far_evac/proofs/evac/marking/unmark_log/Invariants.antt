@@ -1,7 +1,7 @@
 use Rattle.std.proofs.Common.{◌≡◌, ◌-◌, ◌<◌, ◌^◌, ◌++◌, ℕ, List}
 use Rattle.std.specs.Prelude.{fold}
 use Rattle.far_word.specs.declared.sizes.TheConstants.{LOG_WORDS}
-use Rattle.far_core.specs.state.Law.{Law}
+use Rattle.far_events.specs.state.Law.{Law}
 use Rattle.far_book.specs.book.Own.{own_part}
 use Rattle.far_hand.specs.Came.{Came}
 use Rattle.far_evac.specs.AnyHand.{Knows}

@@ -2,9 +2,9 @@ use Rattle.far_hand.proofs.Closure.{came_only, then_call}
 use Rattle.far_evac.proofs.evac.waiting.look_from.Goals as goal
 use Rattle.std.proofs.Common.{◌≡◌, ◌∙◌, ap, sym, arith, refl, subst}
 use Rattle.far_word.specs.Scope.{scope_of}
-use Rattle.far_core.specs.declared.shape.Shape.{Shape}
-use Rattle.far_core.specs.events.Look.{shows_clear}
-use Rattle.far_core.specs.state.State.{State}
+use Rattle.far_events.specs.declared.shape.Shape.{Shape}
+use Rattle.far_events.specs.events.Look.{shows_clear}
+use Rattle.far_events.specs.state.State.{State}
 use Rattle.far_hand.specs.Rounds.{looked_at}
 use Rattle.far_evac.proofs.Looks.{found_clear, found_open, none_more, one_looked}
 

@@ -1,10 +1,10 @@
 use Rattle.std.proofs.Common.{◌≡◌, ◌≢◌, Option, Some, None, ap, cond, false, refl, true, sym, ◌∙◌}
 use Rattle.std.specs.Prelude.{◌*◌}
 use Rattle.far_word.specs.declared.sizes.TheConstants.{CELLS, LOG_WORDS}
-use Rattle.far_core.specs.declared.event.Event.{Event}
-use Rattle.far_core.specs.events.Step.{step_of}
+use Rattle.far_events.specs.declared.event.Event.{Event}
+use Rattle.far_events.specs.events.Step.{step_of}
 use Rattle.far_core.specs.state.CoreState.{core_state}
-use Rattle.far_core.specs.state.State.{State}
+use Rattle.far_events.specs.state.State.{State}
 use Rattle.far_hand.specs.BesetView.{next_event, passed}
 use Rattle.far_hand.specs.Makers.{is_others}
 use Rattle.far_hand.specs.Masked.{word_at, is_counted}

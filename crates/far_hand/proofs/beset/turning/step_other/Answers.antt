@@ -1,7 +1,7 @@
 use Rattle.std.proofs.Common.{ap}
 use Rattle.far_core.specs.state.CoreState.{core_state}
-use Rattle.far_core.specs.declared.event.Reply.{Reply}
-use Rattle.far_core.specs.state.State.{State}
+use Rattle.far_events.specs.declared.event.Reply.{Reply}
+use Rattle.far_events.specs.state.State.{State}
 use Rattle.far_hand.proofs.Told.{others_told}
 use Rattle.far_hand.proofs.OthersWork.{made_changes}
 use Rattle.far_hand.proofs.beset.turning.step_other.Goals as goal

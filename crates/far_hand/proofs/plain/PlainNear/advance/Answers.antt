@@ -1,10 +1,9 @@
 use Rattle.far_core.specs.state.CoreState.{core_state}
-use Rattle.far_core.specs.events.Advance.{MayAdvance}
-use Rattle.far_core.specs.declared.event.Event.TheVariants.{Advance}
-use Rattle.far_core.specs.declared.event.Reply.TheVariants.{Epoch}
-use Rattle.far_hand.proofs.Making.{legal_made}
+use Rattle.far_events.specs.events.Advance.{MayAdvance}
+use Rattle.far_events.specs.declared.event.Event.TheVariants.{Advance}
+use Rattle.far_events.specs.declared.event.Reply.TheVariants.{Epoch}
+use Rattle.far_hand.proofs.Making.{legal_made, spent_made}
 use Rattle.std.proofs.Common.{refl}
-use Rattle.far_hand.proofs.Making.{spent_made}
 use Rattle.far_hand.proofs.plain.PlainNear.advance.Goals as goal
 
 pub advance-requires : goal.advance-requires

@@ -1,6 +1,6 @@
 use Rattle.far_core.specs.state.CoreState.{core_state}
-use Rattle.far_core.specs.declared.event.Event.TheVariants.{Get}
-use Rattle.far_core.specs.declared.event.Reply.TheVariants.{Word}
+use Rattle.far_events.specs.declared.event.Event.TheVariants.{Get}
+use Rattle.far_events.specs.declared.event.Reply.TheVariants.{Word}
 use Rattle.far_hand.proofs.Making.{legal_made}
 use Rattle.far_hand.proofs.plain.PlainNear.get.Goals as goal
 

@@ -1,11 +1,11 @@
 use Rattle.std.proofs.Common.{subst, sym}
 use Rattle.std.proofs.lemmas.Result.{IfOk-weaker, IfErr-weaker}
 use Rattle.far_core.specs.state.CoreState.{core_state}
-use Rattle.far_core.specs.state.State.{State}
+use Rattle.far_events.specs.state.State.{State}
 use Rattle.far_hand.specs.Known.{Forgets, StoresLeaving}
 use Rattle.far_hand.proofs.Naming.{name_forgets, stores_leaving, won}
-use Rattle.far_core.specs.declared.event.Event.TheVariants.{Name}
-use Rattle.far_core.specs.declared.event.Reply.TheVariants.{Done, Word}
+use Rattle.far_events.specs.declared.event.Event.TheVariants.{Name}
+use Rattle.far_events.specs.declared.event.Reply.TheVariants.{Done, Word}
 use Rattle.far_hand.proofs.Making.{legal_made}
 use Rattle.far_hand.proofs.plain.PlainNear.name.Goals as goal
 

@@ -1,6 +1,6 @@
 use Rattle.far_core.specs.state.CoreState.{core_state}
-use Rattle.far_core.specs.declared.event.Event.TheVariants.{Put}
-use Rattle.far_core.specs.declared.event.Reply.TheVariants.{Done}
+use Rattle.far_events.specs.declared.event.Event.TheVariants.{Put}
+use Rattle.far_events.specs.declared.event.Reply.TheVariants.{Done}
 use Rattle.far_hand.proofs.Making.{legal_made}
 use Rattle.std.proofs.Common.{refl}
 use Rattle.far_hand.proofs.plain.PlainNear.put.Goals as goal

@@ -1,7 +1,7 @@
 use Rattle.std.proofs.Common.{◌∙◌, refl, subst, sym}
 use Rattle.far_word.specs.Bytes.{packed_word}
 use Rattle.far_core.specs.state.CoreState.{core_state}
-use Rattle.far_core.proofs.PackedRows.{packed_fits}
+use Rattle.far_events.proofs.PackedRows.{packed_fits}
 use Rattle.far_core.proofs.Ranges.{puts_end}
 use Rattle.far_hand.specs.Ranges.{WritesRow}
 use Rattle.far_hand.proofs.PlainRows.{plain_makes, plain_view, writes_row}

@@ -1,6 +1,6 @@
 use Rattle.std.proofs.Common.{◌≡◌, ◌∙◌, Bool, false, sym, subst, ap}
 use Rattle.far_core.specs.state.CoreState.{core_state}
-use Rattle.far_core.specs.state.State.{State}
+use Rattle.far_events.specs.state.State.{State}
 use Rattle.far_table.specs.View.{BookView}
 use Rattle.far_table.specs.BookSeats.{seat_view, table_of}
 use Rattle.far_hand.specs.ShapeOf.{shape_of}

@@ -1,5 +1,5 @@
 use Rattle.std.proofs.Common.{subst}
-use Rattle.far_core.specs.state.State.{State}
+use Rattle.far_events.specs.state.State.{State}
 use Rattle.far_table.specs.CopySeats.{IsTakenBy}
 use Rattle.far_table.specs.Tells.{CopierMayBe, CopierStands}
 use Rattle.far_heap.specs.Copiers.{CopyingOf}

@@ -1,7 +1,7 @@
 use Rattle.std.proofs.Common.{◌≡◌, ℕ, ◌/◌, true, false, refl, ap, subst, sym, ◌∙◌, arith}
 use Rattle.far_word.specs.declared.sizes.TheConstants.{CELLS}
-use Rattle.far_core.specs.declared.event.Event.TheVariants.{Adopt}
-use Rattle.far_core.specs.declared.event.Reply.TheVariants.{Word}
+use Rattle.far_events.specs.declared.event.Event.TheVariants.{Adopt}
+use Rattle.far_events.specs.declared.event.Reply.TheVariants.{Word}
 use Rattle.far_table.specs.Seats.{Seated}
 use Rattle.far_table.specs.Tells.{OwnerMade, OwnerRefused}
 use Rattle.std.proofs.lemmas.Bool.{eqb-true}

@@ -1,6 +1,6 @@
 use Rattle.std.proofs.Common.{◌≡◌, ℕ, true, false, cond, ap, subst, sym, ◌∙◌}
 use Rattle.far_word.specs.Pointer.{read_of}
-use Rattle.far_core.specs.events.Quiet.{has_move}
+use Rattle.far_events.specs.events.Quiet.{has_move}
 use Rattle.far_table.specs.Views.{held_at}
 use Rattle.far_heap.specs.Mine.{Mine, asking, mine_of, uses, views}
 use Rattle.far_heap.proofs.Mines.{asked_mine, none_there, uses_so, views_own}

@@ -2,7 +2,7 @@ use Rattle.std.proofs.Common.{◌≡◌, ℕ, true, false, Result, refl, ap, sub
 use Rattle.std.proofs.lemmas.Bool.{false≢true}
 use Rattle.far_word.specs.declared.pointer.Place.{Place}
 use Rattle.far_word.specs.Pointer.{read_of}
-use Rattle.far_core.specs.declared.event.Event.TheVariants.{Pin}
+use Rattle.far_events.specs.declared.event.Event.TheVariants.{Pin}
 use Rattle.far_table.specs.Seats.{Seated, pin_reply}
 use Rattle.far_table.specs.Tells.{OwnerMade}
 use Rattle.far_table.specs.Views.{held_at}

@@ -30,7 +30,7 @@ pub returns-in_default-clause-why : goal.returns-in_default-clause-why
 returns-in_default-clause-why g c =
     let s = state_in c.self.inside.evac in
     let law = c.self.inside.evac.book.near.core.law in
-    (sym c.is_object.ensures ∙ c.if-not-is_object.false, full_so (objects_in c.self.inside.evac) c.args.self.now c.self.view_is (ends s law c.self.invariant.settled) (full_some s law c.self.invariant.settled c.in_default.ensures))
+    (sym c.is_object.ensures ∙ c.if-not-is_object.false, full_so (objects_in c.self.inside.evac) c.args.self.now c.self.view_is (ends s law c.self.invariant.0.settled) (full_some s law c.self.invariant.0.settled c.in_default.ensures))
 
 pub returns-in-Ok : goal.returns-in-Ok
 returns-in-Ok g c =
@@ -38,7 +38,7 @@ returns-in-Ok g c =
     let law = c.self.inside.evac.book.near.core.law in
     let long : is_length (length c.args.bytes.now) ≡ true = sym c.is_object.ensures ∙ c.if-not-is_object.false in
     let free = c.in-Some.ensures in
-    let none = none_so (objects_in c.self.inside.evac) c.args.self.now c.self.view_is (ends s law c.self.invariant.settled) c.in-Some.pointer (free_none s law c.self.invariant.settled c.in-Some.pointer free.free) in
+    let none = none_so (objects_in c.self.inside.evac) c.args.self.now c.self.view_is (ends s law c.self.invariant.0.settled) c.in-Some.pointer (free_none s law c.self.invariant.0.settled c.in-Some.pointer free.free) in
     record {
       made = (free.inside, none, bytes_so (objects_in c.self.inside.evac) c.args.self.now c.self.view_is (objects_in c.place_with.new.evac) c.in-Some.pointer c.args.structure c.args.bytes.now c.in-Ok.ensures.made);
       object = new_at (objects_in c.place_with.new.evac) (objects_in c.self.inside.evac) c.in-Some.pointer _ free.inside c.in-Ok.ensures.made ∙ ap (λ (h : Heap). Some (object_with h.honest c.args.structure c.args.bytes.now)) c.self.view_is;
@@ -56,7 +56,7 @@ returns-in-Err g c =
     let law = c.self.inside.evac.book.near.core.law in
     let long : is_length (length c.args.bytes.now) ≡ true = sym c.is_object.ensures ∙ c.if-not-is_object.false in
     let free = c.in-Some.ensures in
-    let none = none_so (objects_in c.self.inside.evac) c.args.self.now c.self.view_is (ends s law c.self.invariant.settled) c.in-Some.pointer (free_none s law c.self.invariant.settled c.in-Some.pointer free.free) in
+    let none = none_so (objects_in c.self.inside.evac) c.args.self.now c.self.view_is (ends s law c.self.invariant.0.settled) c.in-Some.pointer (free_none s law c.self.invariant.0.settled c.in-Some.pointer free.free) in
     record {
       made = tt;
       object = tt;
@@ -65,17 +65,23 @@ returns-in-Err g c =
       long = not_long c.args.self.now (length c.args.bytes.now) (length_some _ long) (length_most _ long) _;
       full = not_full c.args.self.now (length c.args.bytes.now) (length_some _ long) (length_most _ long) c.in-Some.pointer free.inside none _;
       why = want_why c.args.self.now (length c.args.bytes.now) long (c.in-Some.pointer, free.inside, none) c.in-Err.why c.in-Err.ensures.why;
-      room = room_so g.D.Device.writes s c.args.self.now c.self.view_is (ends s law c.self.invariant.settled) (Err c.in-Err.why) c.in-Err.ensures.stuck;
+      room = room_so g.D.Device.writes s c.args.self.now c.self.view_is (ends s law c.self.invariant.0.settled) (Err c.in-Err.why) c.in-Err.ensures.stuck;
     }
 
 pub invariant_of-self : goal.invariant_of-self
-invariant_of-self g c = record {
-  settled = c.place_with.ensures.settled;
-  free = has_taken c.self.inside.free c.remove.new.self (objects_in c.self.inside.evac) c.self.invariant.free (objects_in c.place_with.new.evac) c.in-Some.pointer _ c.in-Ok.ensures.made c.remove.ensures;
-}
+invariant_of-self g c = (
+  record {
+    settled = c.place_with.ensures.settled;
+    free = has_taken c.self.inside.free c.remove.new.self (objects_in c.self.inside.evac) c.self.invariant.0.free (objects_in c.place_with.new.evac) c.in-Some.pointer _ c.in-Ok.ensures.made c.remove.ensures;
+  },
+  c.place_with.ensures.idle c.self.invariant.1,
+)
 
 pub invariant_of-self-in-Err : goal.invariant_of-self-in-Err
-invariant_of-self-in-Err g c = record {
-  settled = c.place_with.ensures.settled;
-  free = has_same c.self.inside.free c.self.inside.free (objects_in c.self.inside.evac) c.self.invariant.free (objects_in c.place_with.new.evac) c.in-Err.ensures.refused;
-}
+invariant_of-self-in-Err g c = (
+  record {
+    settled = c.place_with.ensures.settled;
+    free = has_same c.self.inside.free c.self.inside.free (objects_in c.self.inside.evac) c.self.invariant.0.free (objects_in c.place_with.new.evac) c.in-Err.ensures.refused;
+  },
+  c.place_with.ensures.idle c.self.invariant.1,
+)

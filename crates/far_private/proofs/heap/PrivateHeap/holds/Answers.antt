@@ -6,4 +6,4 @@ use Rattle.far_private.proofs.Lawful.{ends}
 use Rattle.far_private.proofs.heap.PrivateHeap.holds.Goals as goal
 
 pub returns : goal.returns
-returns g c = c.holds.ensures ∙ ap is_some (sym (object_so (objects_in c.self.inside.evac) c.args.self.now c.self.view_is (ends (state_in c.self.inside.evac) c.self.inside.evac.book.near.core.law c.self.invariant.settled) c.args.pointer))
+returns g c = c.holds.ensures ∙ ap is_some (sym (object_so (objects_in c.self.inside.evac) c.args.self.now c.self.view_is (ends (state_in c.self.inside.evac) c.self.inside.evac.book.near.core.law c.self.invariant.0.settled) c.args.pointer))

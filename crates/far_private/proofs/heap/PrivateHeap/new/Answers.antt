@@ -12,6 +12,9 @@ returns-clause-empty g c = none_at (objects_in c.new-2.result) (begins_none (sta
     (ap (λ b. world_of (core_state b.near.core)) c.new-2.ensures.book ∙ ap (λ n. world_of (core_state n.core)) c.in-Ok-new.ensures.near ∙ c.in-Ok.ensures.world))
 
 pub invariant_of-result : goal.invariant_of-result
-invariant_of-result g c = begins_kept (state_in c.new-2.result) c.all.result record { logs = c.args.logs; mutators = 8; epoch = 0 } c.args.honest
-    (ap (λ b. core_state b.near.core) c.new-2.ensures.book ∙ ap (λ n. core_state n.core) c.in-Ok-new.ensures.near ∙ c.in-Ok.ensures.opening)
-    (ap (λ b. world_of (core_state b.near.core)) c.new-2.ensures.book ∙ ap (λ n. world_of (core_state n.core)) c.in-Ok-new.ensures.near ∙ c.in-Ok.ensures.world) refl c.all.ensures
+invariant_of-result g c = (
+  begins_kept (state_in c.new-2.result) c.all.result record { logs = c.args.logs; mutators = 8; epoch = 0 } c.args.honest
+      (ap (λ b. core_state b.near.core) c.new-2.ensures.book ∙ ap (λ n. core_state n.core) c.in-Ok-new.ensures.near ∙ c.in-Ok.ensures.opening)
+      (ap (λ b. world_of (core_state b.near.core)) c.new-2.ensures.book ∙ ap (λ n. world_of (core_state n.core)) c.in-Ok-new.ensures.near ∙ c.in-Ok.ensures.world) refl c.all.ensures,
+  c.new-2.ensures.phase,
+)

@@ -14,8 +14,8 @@ pub returns-clause-far : goal.returns-clause-far
 returns-clause-far g c =
     let s = state_in c.self.inside.evac in
     let law = c.self.inside.evac.book.near.core.law in
-    let past = ends s law c.self.invariant.settled in
-    far_so s c.args.self.now c.self.view_is past _ _ _ c.tell.ensures.far c.tell.ensures.far_bytes (live_so s law c.self.invariant.settled c.args.self.now c.self.view_is past _ c.tell.ensures.live)
+    let past = ends s law c.self.invariant.0.settled in
+    far_so s c.args.self.now c.self.view_is past _ _ _ c.tell.ensures.far c.tell.ensures.far_bytes (live_so s law c.self.invariant.0.settled c.args.self.now c.self.view_is past _ c.tell.ensures.live)
 
 pub returns-clause-bytes : goal.returns-clause-bytes
 returns-clause-bytes g c = c.tell.ensures.bytes ∙ ap (λ (h : Heap). 4096 * h.logs) c.self.view_is

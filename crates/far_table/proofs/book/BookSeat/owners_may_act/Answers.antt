@@ -1,7 +1,7 @@
 use Rattle.std.proofs.Common.{sym, subst}
-use Rattle.far_core.specs.events.Legal.{Legal}
-use Rattle.far_core.specs.events.Step.{after}
-use Rattle.far_core.specs.state.State.{State}
+use Rattle.far_events.specs.events.Legal.{Legal}
+use Rattle.far_events.specs.events.Step.{after}
+use Rattle.far_events.specs.state.State.{State}
 use Rattle.far_table.specs.BookSeats.{MayBe, book_in}
 use Rattle.far_table.proofs.OwnersAct.{may_act}
 use Rattle.far_table.proofs.book.BookSeat.owners_may_act.Goals as goal

@@ -1,7 +1,7 @@
 use Rattle.std.proofs.Common.{sym, subst}
-use Rattle.far_core.specs.declared.event.Event.TheVariants.{Get}
-use Rattle.far_core.specs.declared.event.Reply.TheVariants.{Word}
-use Rattle.far_core.specs.events.Legal.{Legal}
+use Rattle.far_events.specs.declared.event.Event.TheVariants.{Get}
+use Rattle.far_events.specs.declared.event.Reply.TheVariants.{Word}
+use Rattle.far_events.specs.events.Legal.{Legal}
 use Rattle.far_hand.specs.Ranges.{Gets}
 use Rattle.far_table.specs.BookSeats.{seat_makes, seat_view}
 use Rattle.far_table.proofs.book_hand.BookSeatNear.get.Goals as goal

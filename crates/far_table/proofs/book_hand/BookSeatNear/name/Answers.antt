@@ -1,7 +1,7 @@
 use Rattle.std.proofs.Common.{◌≡◌, refl, sym, ap, subst}
-use Rattle.far_core.specs.events.Step.{after}
-use Rattle.far_core.specs.state.State.{State}
-use Rattle.far_core.specs.declared.event.Event.TheVariants.{Name}
+use Rattle.far_events.specs.events.Step.{after}
+use Rattle.far_events.specs.state.State.{State}
+use Rattle.far_events.specs.declared.event.Event.TheVariants.{Name}
 use Rattle.far_hand.specs.Finds.{Finds}
 use Rattle.far_hand.specs.Known.{StoresLeaving}
 use Rattle.far_table.specs.Layout.{cell_at}

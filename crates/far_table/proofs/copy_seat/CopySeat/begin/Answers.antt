@@ -1,5 +1,5 @@
 use Rattle.std.proofs.Common.{◌≡◌, ◌+◌, Some, sym, ap, subst, arith}
-use Rattle.far_core.specs.state.State.{addr}
+use Rattle.far_events.specs.state.State.{addr}
 use Rattle.far_table.specs.CopySeats.{task_of}
 use Rattle.far_table.specs.Layout.{LOGS_AT, data_at}
 use Rattle.far_table.specs.Seats.{CopierSeated}

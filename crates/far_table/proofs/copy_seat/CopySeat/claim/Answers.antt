@@ -1,6 +1,6 @@
 use Rattle.std.proofs.Common.{◌≡◌, ◌∙◌, refl, sym, ap, subst, arith}
 use Rattle.far_word.specs.declared.sizes.TheConstants.{JOBS}
-use Rattle.far_core.specs.declared.event.Task.{Task}
+use Rattle.far_events.specs.declared.event.Task.{Task}
 use Rattle.far_table.specs.CopySeats.{Took}
 use Rattle.far_table.proofs.CopySeatLemmas.{missed_as, missed_more, missed_only, still_free}
 use Rattle.far_table.proofs.copy_seat.CopySeat.claim.Goals as goal

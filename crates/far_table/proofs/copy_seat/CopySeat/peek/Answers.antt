@@ -1,6 +1,6 @@
 use Rattle.std.proofs.Common.{refl, ap, subst, arith}
-use Rattle.far_core.specs.declared.event.Event.TheVariants.{PeekJob}
-use Rattle.far_core.specs.declared.event.Reply.TheVariants.{Word}
+use Rattle.far_events.specs.declared.event.Event.TheVariants.{PeekJob}
+use Rattle.far_events.specs.declared.event.Reply.TheVariants.{Word}
 use Rattle.far_table.specs.CopierViews.{peeked_view}
 use Rattle.far_table.specs.Seats.{CopierSeated}
 use Rattle.far_table.specs.Tells.{CopierMade}

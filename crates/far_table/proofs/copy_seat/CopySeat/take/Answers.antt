@@ -1,6 +1,6 @@
 use Rattle.std.proofs.Common.{◌≡◌, ◌∙◌, None, inr, refl, sym, ap, subst, arith}
 use Rattle.far_word.specs.Job.{job_in}
-use Rattle.far_core.specs.declared.event.Event.TheVariants.{Claim}
+use Rattle.far_events.specs.declared.event.Event.TheVariants.{Claim}
 use Rattle.far_table.specs.CopierViews.{claimed_view, peeked_view}
 use Rattle.far_table.specs.Seats.{CopierSeated}
 use Rattle.far_table.specs.View.{CopierView}

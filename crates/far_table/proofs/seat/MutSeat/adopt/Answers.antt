@@ -3,7 +3,7 @@ use Rattle.std.specs.Prelude.{if◌then◌else◌}
 use Rattle.far_word.specs.declared.sizes.TheConstants.{CELLS}
 use Rattle.far_table.specs.Layout.{cell_at}
 use Rattle.far_table.specs.Seats.{Seated}
-use Rattle.far_core.specs.declared.event.Event.TheVariants.{Adopt}
+use Rattle.far_events.specs.declared.event.Event.TheVariants.{Adopt}
 use Rattle.far_table.specs.View.{OwnerView}
 use Rattle.far_table.specs.Tells.{OwnerRefused, owner_of}
 use Rattle.far_table.specs.Views.{adopted_view, noted_view, object_at}

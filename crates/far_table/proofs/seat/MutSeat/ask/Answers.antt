@@ -1,6 +1,6 @@
 use Rattle.std.proofs.Common.{◌≡◌, ◌/◌, true, refl, sym, ap, ◌∙◌, subst, arith, None, ◌∷◌}
 use Rattle.far_word.specs.declared.sizes.TheConstants.{CELLS}
-use Rattle.far_core.specs.declared.event.Event.TheVariants.{Ask}
+use Rattle.far_events.specs.declared.event.Event.TheVariants.{Ask}
 use Rattle.far_table.specs.View.{OwnerView}
 use Rattle.far_table.specs.Layout.{cell_at}
 use Rattle.far_table.specs.Seats.{Seated, Remembers}

@@ -3,9 +3,9 @@ use Rattle.std.specs.Prelude.{IsSome}
 use lib.ListN.{length-set}
 use Rattle.far_word.specs.declared.sizes.TheConstants.{CELLS}
 use Rattle.far_word.specs.Pointer.{read_of}
-use Rattle.far_core.specs.declared.event.Event.TheVariants.{Pin}
-use Rattle.far_core.specs.events.Pin.{pin_answer, place_to_view}
-use Rattle.far_core.proofs.Put.{put_same}
+use Rattle.far_events.specs.declared.event.Event.TheVariants.{Pin}
+use Rattle.far_events.specs.events.Pin.{pin_answer, place_to_view}
+use Rattle.far_events.proofs.Put.{put_same}
 use Rattle.far_table.specs.View.{OwnerView}
 use Rattle.far_table.specs.Layout.{cell_at}
 use Rattle.far_table.specs.Seats.{Seated}

@@ -1,7 +1,7 @@
 use Rattle.std.proofs.Common.{true, refl, sym, ap, ◌∙◌, subst, arith, ◌∷◌}
 use Rattle.std.specs.Prelude.{IsSome}
-use Rattle.far_core.specs.declared.event.Event.TheVariants.{Soil}
-use Rattle.far_core.proofs.Put.{put_same}
+use Rattle.far_events.specs.declared.event.Event.TheVariants.{Soil}
+use Rattle.far_events.proofs.Put.{put_same}
 use Rattle.far_table.specs.View.{OwnerView}
 use Rattle.far_table.specs.Layout.{cell_at}
 use Rattle.far_table.specs.Seats.{Seated}

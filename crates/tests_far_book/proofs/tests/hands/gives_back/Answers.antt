@@ -2,9 +2,9 @@
 -- is the core's.
 use Rattle.std.proofs.Common.{◌∙◌, ℕ, true, sym}
 use Rattle.std.proofs.lemmas.Bool.{eqb-true, false≢true}
-use Rattle.far_core.specs.declared.event.Event.TheVariants.{Get}
-use Rattle.far_core.specs.events.Get.{IsVacant}
-use Rattle.far_core.specs.events.Legal.{Legal}
+use Rattle.far_events.specs.declared.event.Event.TheVariants.{Get}
+use Rattle.far_events.specs.events.Get.{IsVacant}
+use Rattle.far_events.specs.events.Legal.{Legal}
 use Rattle.far_core.specs.state.CoreState.{core_state}
 use Rattle.far_hand.specs.BesetView.{beset_view}
 use Rattle.far_hand.specs.Masked.{word_at}

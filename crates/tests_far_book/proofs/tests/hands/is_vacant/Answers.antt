@@ -3,7 +3,7 @@ use Rattle.std.proofs.lemmas.Bool.{cases_eq, cases_lt}
 use Rattle.std.proofs.lemmas.List.{get_or_past}
 use Rattle.far_word.specs.declared.pointer.PtrWord.TheVariants.{Free, Near}
 use Rattle.far_word.specs.Pointer.{read_of}
-use Rattle.far_core.proofs.Cells.{unused}
+use Rattle.far_events.proofs.Cells.{unused}
 use Rattle.far_hand.specs.Masked.{word_at}
 use Rattle.tests_far_book.proofs.tests.hands.is_vacant.Goals as goal
 

@@ -4,16 +4,16 @@ use Rattle.far_word.specs.declared.pointer.Place.{Place}
 use Rattle.far_word.specs.declared.pointer.PtrWord.TheVariants.{Near}
 use Rattle.far_word.specs.declared.sizes.TheConstants.{CELLS}
 use Rattle.far_word.specs.Pointer.{read_of}
-use Rattle.far_core.specs.declared.event.Event.TheVariants.{Name, Put}
-use Rattle.far_core.specs.declared.event.Kind.TheVariants.{Open}
-use Rattle.far_core.specs.declared.naming.Naming.TheVariants.{Places}
-use Rattle.far_core.specs.events.Legal.{Legal}
-use Rattle.far_core.specs.events.Naming.{unmarked}
-use Rattle.far_core.specs.events.NewSpans.{with_span}
-use Rattle.far_core.specs.events.Step.{after}
-use Rattle.far_core.specs.state.State.{State, put}
-use Rattle.far_core.proofs.Cells.{unused}
-use Rattle.far_core.proofs.Put.{put_same}
+use Rattle.far_events.specs.declared.event.Event.TheVariants.{Name, Put}
+use Rattle.far_events.specs.declared.event.Kind.TheVariants.{Open}
+use Rattle.far_events.specs.declared.naming.Naming.TheVariants.{Places}
+use Rattle.far_events.specs.events.Legal.{Legal}
+use Rattle.far_events.specs.events.Naming.{unmarked}
+use Rattle.far_events.specs.events.NewSpans.{with_span}
+use Rattle.far_events.specs.events.Step.{after}
+use Rattle.far_events.specs.state.State.{State, put}
+use Rattle.far_events.proofs.Cells.{unused}
+use Rattle.far_events.proofs.Put.{put_same}
 use Rattle.tests_far_book.proofs.tests.hands.place_first.Goals as goal
 use Rattle.far_hand.proofs.Knowing.{not_from_free}
 use Rattle.far_hand.proofs.Naming.{won_state}

@@ -1,10 +1,10 @@
 use Rattle.std.proofs.Common.{◌≡◌, ◌*◌, ◌<◌, ◌∙◌, Some, true, sym, ap, subst}
 use Rattle.far_word.specs.declared.sizes.TheConstants.{CELLS}
 use Rattle.far_word.specs.Pointer.{read_of}
-use Rattle.far_core.specs.declared.naming.Naming.TheVariants.{Retires}
-use Rattle.far_core.specs.events.Naming.{is_dropped}
-use Rattle.far_core.specs.state.State.{State}
-use Rattle.far_core.proofs.Cells.{unused}
+use Rattle.far_events.specs.declared.naming.Naming.TheVariants.{Retires}
+use Rattle.far_events.specs.events.Naming.{is_dropped}
+use Rattle.far_events.specs.state.State.{State}
+use Rattle.far_events.proofs.Cells.{unused}
 use Rattle.tests_far_book.proofs.tests.hands.retire_first.Goals as goal
 use Rattle.far_hand.proofs.Knowing.{not_to_free}
 

@@ -1,5 +1,5 @@
 use Rattle.std.proofs.Common.{◌∙◌, ◌<◌, arith, ap, subst, sym}
-use Rattle.far_core.specs.state.State.{State}
+use Rattle.far_events.specs.state.State.{State}
 use Rattle.tests_far_book.proofs.Offers.{may_begin}
 use Rattle.tests_far_book.proofs.tests.jobs.all_have_evac.Goals as goal
 

@@ -1,7 +1,7 @@
 use Rattle.std.proofs.Common.{◌≡◌, ℕ, ◌<◌}
 use Rattle.far_word.specs.Pointer.{read_of}
-use Rattle.far_core.specs.events.Advance.{is_among}
-use Rattle.far_core.specs.state.Law.{HasEvac}
+use Rattle.far_events.specs.events.Advance.{is_among}
+use Rattle.far_events.specs.state.Law.{HasEvac}
 use Rattle.tests_far_book.proofs.tests.jobs.all_have_evac.Given as goal
 
 -- the cells that were seen say so, and nothing but cells is another

@@ -2,7 +2,7 @@ use Rattle.tests_far_book.proofs.tests.owning.store_word.Goals as goal
 use Rattle.std.proofs.Common.{◌≡◌, ◌<◌, ◌≤◌, ◌+◌, ◌-◌, ◌*◌, ◌^◌, ◌∙◌, ℕ, zero, suc, Some, ap, sym, arith, [], ◌∷◌}
 use Rattle.std.specs.Prelude.{slice_index}
 use Rattle.std.proofs.Math.Nat.{pow-le-pow_right}
-use Rattle.far_core.specs.events.Step.{data_len, near_len}
+use Rattle.far_events.specs.events.Step.{data_len, near_len}
 use Rattle.far_core.specs.state.CoreState.{core_state}
 use Rattle.far_word.specs.Pointer.{read_of}
 

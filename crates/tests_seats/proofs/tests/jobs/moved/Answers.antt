@@ -3,7 +3,7 @@ use Rattle.far_word.specs.declared.pointer.Place.{Place}
 use Rattle.far_word.specs.declared.pointer.PtrWord.TheVariants.{Near}
 use Rattle.far_word.specs.Pointer.{IsPtr, read_of}
 use Rattle.far_word.proofs.PointerLaws.{read_back}
-use Rattle.far_core.specs.events.Naming.{unmarked}
+use Rattle.far_events.specs.events.Naming.{unmarked}
 use Rattle.tests_seats.proofs.Offering.{not_false, same_place}
 use Rattle.tests_seats.proofs.tests.jobs.moved.Goals as goal
 

@@ -1,6 +1,6 @@
 use Rattle.std.proofs.Common.{◌≡◌, ◌*◌, arith}
 use Rattle.far_word.specs.declared.sizes.TheConstants.{CELLS}
-use Rattle.far_core.specs.state.State.{State}
+use Rattle.far_events.specs.state.State.{State}
 use Rattle.tests_seats.proofs.Uses.{marked_all}
 use Rattle.tests_seats.proofs.tests.pairs.are_marked.Goals as goal
 

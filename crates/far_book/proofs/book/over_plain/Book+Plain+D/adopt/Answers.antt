@@ -1,12 +1,12 @@
 use Rattle.far_book.proofs.book.over_plain.Book+Plain+D.adopt.Goals as goal
 use Rattle.std.proofs.Common.{◌≡◌, ◌∙◌, ap, refl, subst, sym}
 use Rattle.std.proofs.lemmas.Bool.{false≢true}
-use Rattle.far_core.specs.declared.event.Event.TheVariants.{Adopt}
-use Rattle.far_core.specs.declared.event.Reply.TheVariants.{Word}
-use Rattle.far_core.specs.events.Legal.{Legal}
-use Rattle.far_core.specs.events.Step.{after, answer}
+use Rattle.far_events.specs.declared.event.Event.TheVariants.{Adopt}
+use Rattle.far_events.specs.declared.event.Reply.TheVariants.{Word}
+use Rattle.far_events.specs.events.Legal.{Legal}
+use Rattle.far_events.specs.events.Step.{after, answer}
 use Rattle.far_core.specs.state.CoreState.{core_state}
-use Rattle.far_core.specs.state.State.{State}
+use Rattle.far_events.specs.state.State.{State}
 use Rattle.far_hand.specs.Others.{OthersChange}
 use Rattle.far_book.specs.book.BookOf.{BookOf}
 use Rattle.far_hand.specs.declared.plain.Plain.{Plain}

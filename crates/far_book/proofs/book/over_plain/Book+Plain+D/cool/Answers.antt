@@ -2,10 +2,10 @@ use Rattle.std.proofs.Common.{◌≡◌, ◌∙◌, Some, ap, subst, sym}
 use Rattle.std.specs.Prelude.{IsSome}
 use Rattle.far_word.specs.Pointer.{read_of, without_owner_marks, word_of}
 use Rattle.far_word.specs.declared.pointer.PtrWord.{PtrWord}
-use Rattle.far_core.specs.events.Accesses.{IsAtRest, with_cell}
-use Rattle.far_core.specs.events.Pin.{place_to_view}
+use Rattle.far_events.specs.events.Accesses.{IsAtRest, with_cell}
+use Rattle.far_events.specs.events.Pin.{place_to_view}
 use Rattle.far_core.specs.state.CoreState.{core_state}
-use Rattle.far_core.specs.state.State.{State}
+use Rattle.far_events.specs.state.State.{State}
 use Rattle.far_hand.specs.declared.plain.Plain.{Plain}
 use Rattle.far_book.specs.book.BookOf.{BookOf}
 use Rattle.far_book.specs.book.SealedLogs.{KeepsSealed}

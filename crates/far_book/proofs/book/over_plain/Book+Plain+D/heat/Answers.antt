@@ -1,8 +1,8 @@
 use Rattle.std.proofs.Common.{◌∙◌, ap, subst, sym}
-use Rattle.far_core.specs.events.Accesses.{IsAtRest, heats, hot_word, with_cell}
-use Rattle.far_core.specs.events.Ranges.{after_events}
+use Rattle.far_events.specs.events.Accesses.{IsAtRest, heats, hot_word, with_cell}
+use Rattle.far_events.specs.events.Ranges.{after_events}
 use Rattle.far_core.specs.state.CoreState.{core_state}
-use Rattle.far_core.specs.state.State.{State}
+use Rattle.far_events.specs.state.State.{State}
 use Rattle.far_hand.specs.declared.plain.Plain.{Plain}
 use Rattle.far_book.specs.book.BookOf.{BookOf}
 use Rattle.far_book.specs.book.FarSide.{InOrder}

@@ -1,8 +1,8 @@
 use Rattle.far_book.proofs.book.over_plain.Book+Plain+D.owner.Goals as goal
 use Rattle.std.proofs.Common.{◌≡◌, ◌∙◌, ap, refl, subst, sym}
 use Rattle.std.proofs.lemmas.Bool.{false≢true, true≢false}
-use Rattle.far_core.specs.events.Legal.{Legal}
-use Rattle.far_core.specs.events.Step.{after, answer, step_of}
+use Rattle.far_events.specs.events.Legal.{Legal}
+use Rattle.far_events.specs.events.Step.{after, answer, step_of}
 use Rattle.far_core.specs.world.Happens.{Happens}
 use Rattle.far_core.specs.world.WorldOf.{world_of}
 use Rattle.far_core.specs.state.CoreState.{core_state}

@@ -1,12 +1,12 @@
 use Rattle.std.proofs.Common.{◌≡◌, ◌∙◌, ◌+◌, ◌*◌, ◌<◌, ◌≤◌, arith, ap, refl, sym, subst}
 use Rattle.std.specs.Prelude.{None, Some, true}
 use Rattle.far_word.specs.Sizes.{size_of}
-use Rattle.far_core.specs.events.Legal.{IsClosed}
-use Rattle.far_core.specs.events.NewObjects.{made_with, places_with}
-use Rattle.far_core.specs.events.Ranges.{AllLegal, after_events}
+use Rattle.far_events.specs.events.Legal.{IsClosed}
+use Rattle.far_events.specs.events.NewObjects.{made_with, places_with}
+use Rattle.far_events.specs.events.Ranges.{AllLegal, after_events}
 use Rattle.far_core.specs.state.CoreState.{core_state}
 use Rattle.far_core.specs.state.Room.{room}
-use Rattle.far_core.specs.state.State.{State}
+use Rattle.far_events.specs.state.State.{State}
 use Rattle.far_core.proofs.NewObjects.{MayMake, head, may_make}
 use Rattle.far_hand.specs.declared.plain.Plain.{Plain}
 use Rattle.far_book.specs.book.BookOf.{BookOf}

@@ -3,10 +3,10 @@ use Rattle.std.proofs.Common.{◌≡◌, ◌∙◌, ◌+◌, ◌-◌, ◌*◌, �
 use Rattle.std.specs.Prelude.{slice_index}
 use Rattle.std.specs.List.{range_with_len}
 use Rattle.far_word.specs.Sizes.{words_for}
-use Rattle.far_core.specs.events.Ranges.{AllLegal, after_events, stores}
-use Rattle.far_core.specs.events.Step.{data_len}
+use Rattle.far_events.specs.events.Ranges.{AllLegal, after_events, stores}
+use Rattle.far_events.specs.events.Step.{data_len}
 use Rattle.far_core.specs.state.CoreState.{core_state}
-use Rattle.far_core.specs.state.State.{State}
+use Rattle.far_events.specs.state.State.{State}
 use Rattle.far_book.specs.book.BookOf.{BookOf}
 use Rattle.far_hand.specs.declared.plain.Plain.{Plain}
 use Rattle.far_book.specs.book.FarSide.{InOrder}

@@ -1,12 +1,12 @@
 use Rattle.far_book.proofs.book.over_plain.Book+Plain+D.store_bytes.Goals as goal
 use Rattle.std.proofs.Common.{◌≡◌, ◌∙◌, ◌+◌, ◌/◌, ◌≤◌, ℕ, List, ap, length, sym, subst, true}
 use Rattle.std.specs.List.{range_with_len}
-use Rattle.far_core.proofs.Splices.{written_fit}
-use Rattle.far_core.specs.events.Ranges.{AllLegal, after_events, stores}
-use Rattle.far_core.specs.events.Step.{data_len, data_word}
-use Rattle.far_core.specs.events.Written.{written_words}
+use Rattle.far_events.proofs.Splices.{written_fit}
+use Rattle.far_events.specs.events.Ranges.{AllLegal, after_events, stores}
+use Rattle.far_events.specs.events.Step.{data_len, data_word}
+use Rattle.far_events.specs.events.Written.{written_words}
 use Rattle.far_core.specs.state.CoreState.{core_state}
-use Rattle.far_core.specs.state.State.{State}
+use Rattle.far_events.specs.state.State.{State}
 use Rattle.far_book.specs.book.BookOf.{BookOf}
 use Rattle.far_hand.specs.declared.plain.Plain.{Plain}
 use Rattle.far_book.specs.book.FarSide.{InOrder}

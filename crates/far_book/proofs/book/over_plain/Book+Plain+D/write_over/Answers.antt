@@ -1,13 +1,13 @@
 use Rattle.std.proofs.Common.{◌∙◌, ◌+◌, ◌/◌, ◌≤◌, ap, length, subst, sym}
 use Rattle.std.specs.Prelude.{IsSome}
 use Rattle.far_word.specs.Pointer.{read_of}
-use Rattle.far_core.proofs.Splices.{written_fit}
-use Rattle.far_core.specs.events.Accesses.{IsAtRest, overwrites_in, overwritten, words_over}
-use Rattle.far_core.specs.events.Pin.{place_to_view}
-use Rattle.far_core.specs.events.Ranges.{AllLegal, after_events}
-use Rattle.far_core.specs.events.Step.{data_len, data_word}
+use Rattle.far_events.proofs.Splices.{written_fit}
+use Rattle.far_events.specs.events.Accesses.{IsAtRest, overwrites_in, overwritten, words_over}
+use Rattle.far_events.specs.events.Pin.{place_to_view}
+use Rattle.far_events.specs.events.Ranges.{AllLegal, after_events}
+use Rattle.far_events.specs.events.Step.{data_len, data_word}
 use Rattle.far_core.specs.state.CoreState.{core_state}
-use Rattle.far_core.specs.state.State.{State}
+use Rattle.far_events.specs.state.State.{State}
 use Rattle.far_hand.specs.declared.plain.Plain.{Plain}
 use Rattle.far_book.specs.book.BookOf.{BookOf}
 use Rattle.far_book.specs.book.FarSide.{InOrder}

@@ -1,6 +1,6 @@
 use Rattle.std.proofs.Common.{◌∙◌, ap}
-use Rattle.far_core.specs.events.Accesses.{heats}
-use Rattle.far_core.specs.events.Ranges.{after_events}
+use Rattle.far_events.specs.events.Accesses.{heats}
+use Rattle.far_events.specs.events.Ranges.{after_events}
 use Rattle.far_core.specs.state.CoreState.{core_state}
 use Rattle.far_hand.specs.declared.plain.Plain.{Plain}
 use Rattle.far_book.proofs.region.Accessed.{heats_owned}

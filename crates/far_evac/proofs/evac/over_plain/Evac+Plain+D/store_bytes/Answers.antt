@@ -1,8 +1,8 @@
 use Rattle.std.proofs.Common.{◌/◌, ℕ}
-use Rattle.far_core.specs.events.Step.{data_word}
-use Rattle.far_core.specs.events.Written.{written_words}
+use Rattle.far_events.specs.events.Step.{data_word}
+use Rattle.far_events.specs.events.Written.{written_words}
 use Rattle.far_core.specs.state.CoreState.{core_state}
-use Rattle.far_core.specs.state.State.{State}
+use Rattle.far_events.specs.state.State.{State}
 use Rattle.far_evac.proofs.Sound.{sound_stored}
 use Rattle.far_evac.proofs.evac.over_plain.Evac+Plain+D.store_bytes.Goals as goal
 

@@ -1,10 +1,10 @@
 use Rattle.std.proofs.Common.{◌∙◌, ◌/◌, ap, subst}
-use Rattle.far_core.proofs.Splices.{written_fit}
-use Rattle.far_core.specs.events.Accesses.{overwrites_in, words_over}
-use Rattle.far_core.specs.events.Ranges.{AllLegal, after_events}
-use Rattle.far_core.specs.events.Step.{data_word}
+use Rattle.far_events.proofs.Splices.{written_fit}
+use Rattle.far_events.specs.events.Accesses.{overwrites_in, words_over}
+use Rattle.far_events.specs.events.Ranges.{AllLegal, after_events}
+use Rattle.far_events.specs.events.Step.{data_word}
 use Rattle.far_core.specs.state.CoreState.{core_state}
-use Rattle.far_core.specs.state.State.{State}
+use Rattle.far_events.specs.state.State.{State}
 use Rattle.far_hand.specs.declared.plain.Plain.{Plain}
 use Rattle.far_book.proofs.region.Accessed.{overwrites_owned}
 use Rattle.far_evac.specs.EvacOf.{EvacOf}

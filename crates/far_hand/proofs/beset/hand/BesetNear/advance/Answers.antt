@@ -1,17 +1,17 @@
 use Rattle.std.proofs.Common.{sym, subst, ap, refl, ◌∙◌, ◌≡◌, ◌+◌, ◌*◌, ◌<◌, ℕ, Bool, false}
 use Rattle.far_word.specs.declared.sizes.TheConstants.{CELLS, EPOCH_END, LOG_WORDS}
-use Rattle.far_core.specs.declared.event.Event.TheVariants.{Advance}
-use Rattle.far_core.specs.events.Advance.{advanced}
-use Rattle.far_core.specs.events.Step.{after}
+use Rattle.far_events.specs.declared.event.Event.TheVariants.{Advance}
+use Rattle.far_events.specs.events.Advance.{advanced}
+use Rattle.far_events.specs.events.Step.{after}
 use Rattle.far_core.specs.state.CoreState.{core_state}
-use Rattle.far_core.specs.state.State.{State}
+use Rattle.far_events.specs.state.State.{State}
 use Rattle.far_hand.specs.BesetView.{beset_view}
 use Rattle.far_hand.specs.Known.{Forgets}
 use Rattle.far_hand.specs.Masked.{masked, word_at, is_counted, AllFind, AllFindJobs}
 use Rattle.far_hand.specs.Rounds.{MayChoose}
 use Rattle.far_hand.proofs.Reading.{forgets, header_known}
 use Rattle.far_hand.proofs.RoundSteps.{may_advance}
-use Rattle.far_core.specs.declared.event.Reply.TheVariants.{Epoch, Refused}
+use Rattle.far_events.specs.declared.event.Reply.TheVariants.{Epoch, Refused}
 use Rattle.far_hand.specs.MayBe.{Made}
 use Rattle.far_hand.proofs.Making.{none_rest, spent_made, turn_may_be, turn_then}
 use Rattle.far_hand.proofs.beset.hand.BesetNear.advance.Goals as goal

@@ -1,17 +1,17 @@
 use Rattle.std.proofs.Common.{sym, subst, ap, ◌∙◌, ◌≡◌, ◌*◌, ◌-◌, ◌^◌, ◌<◌, ℕ, Bool, false, refl, bit_and}
 use Rattle.far_word.specs.declared.sizes.TheConstants.{CELLS, LOG_WORDS}
-use Rattle.far_core.specs.declared.event.Event.TheVariants.{Clear}
-use Rattle.far_core.specs.events.Clear.{evac_cleared}
-use Rattle.far_core.specs.events.Step.{after}
+use Rattle.far_events.specs.declared.event.Event.TheVariants.{Clear}
+use Rattle.far_events.specs.events.Clear.{evac_cleared}
+use Rattle.far_events.specs.events.Step.{after}
 use Rattle.far_core.specs.state.CoreState.{core_state}
-use Rattle.far_core.specs.state.State.{State, put}
+use Rattle.far_events.specs.state.State.{State, put}
 use Rattle.far_hand.specs.BesetView.{beset_view}
 use Rattle.far_hand.specs.Known.{Forgets}
 use Rattle.far_hand.specs.Masked.{masked, word_at, is_counted, AllFind, AllFindJobs}
 use Rattle.far_hand.proofs.Counting.{finds_named}
 use Rattle.far_hand.proofs.Reading.{forgets, header_known}
-use Rattle.far_core.specs.declared.event.Reply.TheVariants.{Word}
-use Rattle.far_core.specs.events.Legal.{Legal}
+use Rattle.far_events.specs.declared.event.Reply.TheVariants.{Word}
+use Rattle.far_events.specs.events.Legal.{Legal}
 use Rattle.far_hand.proofs.Finding.{near_found}
 use Rattle.far_hand.proofs.Making.{none_rest, turn_then}
 use Rattle.far_hand.proofs.beset.hand.BesetNear.clear.Goals as goal

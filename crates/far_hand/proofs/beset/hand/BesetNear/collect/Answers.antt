@@ -1,7 +1,7 @@
 use Rattle.std.proofs.Common.{◌∙◌, refl, subst, sym}
-use Rattle.far_core.specs.events.Collect.{collected}
+use Rattle.far_events.specs.events.Collect.{collected}
 use Rattle.far_core.specs.state.CoreState.{core_state}
-use Rattle.far_core.specs.state.State.{State}
+use Rattle.far_events.specs.state.State.{State}
 use Rattle.far_hand.specs.Masked.{word_at, is_counted, CountsOnRest}
 use Rattle.far_hand.proofs.Making.{job_seen_rows, job_set_rows, turn_then}
 use Rattle.far_hand.proofs.Offering.{collect_empties, collect_found, collect_lost, collect_stays, collect_won}

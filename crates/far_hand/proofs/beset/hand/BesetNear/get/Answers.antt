@@ -1,16 +1,16 @@
 use Rattle.std.proofs.Common.{refl, sym, subst, ap, ◌∙◌, ◌≡◌, ◌*◌, ◌+◌, ℕ, Bool}
 use Rattle.far_word.specs.declared.sizes.TheConstants.{CELLS, LOG_WORDS}
-use Rattle.far_core.specs.declared.event.Event.TheVariants.{Get}
-use Rattle.far_core.specs.events.Get.{after_get}
-use Rattle.far_core.specs.events.Legal.{Legal}
+use Rattle.far_events.specs.declared.event.Event.TheVariants.{Get}
+use Rattle.far_events.specs.events.Get.{after_get}
+use Rattle.far_events.specs.events.Legal.{Legal}
 use Rattle.far_core.specs.state.CoreState.{core_state}
-use Rattle.far_core.specs.state.State.{State}
+use Rattle.far_events.specs.state.State.{State}
 use Rattle.far_hand.specs.BesetView.{beset_view}
 use Rattle.far_hand.specs.Masked.{masked, word_at, is_counted, recounted, AllFind, AllFindJobs, CountsOnRest}
 use Rattle.far_hand.proofs.Counting.{counts_read}
 use Rattle.far_hand.specs.Ranges.{Gets}
 use Rattle.far_hand.proofs.Reading.{gets, may_free, stays_after}
-use Rattle.far_core.specs.declared.event.Reply.TheVariants.{Word}
+use Rattle.far_events.specs.declared.event.Reply.TheVariants.{Word}
 use Rattle.far_hand.proofs.Making.{turn_then}
 use Rattle.far_hand.proofs.beset.hand.BesetNear.get.Goals as goal
 

@@ -1,16 +1,16 @@
 use Rattle.std.proofs.Common.{refl, sym, subst, ap, ◌∙◌, ◌≡◌, ◌*◌}
 use Rattle.far_word.specs.declared.sizes.TheConstants.{CELLS, LOG_WORDS}
 use Rattle.far_word.specs.Scope.{scope_of}
-use Rattle.far_core.specs.events.Look.{shows_clear}
+use Rattle.far_events.specs.events.Look.{shows_clear}
 use Rattle.far_core.specs.state.CoreState.{core_state}
-use Rattle.far_core.specs.state.State.{State}
+use Rattle.far_events.specs.state.State.{State}
 use Rattle.far_hand.specs.BesetView.{beset_view}
 use Rattle.far_hand.specs.Masked.{masked, word_at, is_counted, AllFind, AllFindJobs, CountsOnRest}
 use Rattle.far_hand.specs.Rounds.{IsScopeAt, looked_at}
 use Rattle.far_hand.proofs.RoundSteps.{counts_looked, scope_at}
-use Rattle.far_core.specs.declared.event.Event.TheVariants.{Look}
-use Rattle.far_core.specs.declared.event.Reply.TheVariants.{Word}
-use Rattle.far_core.specs.events.Legal.{Legal}
+use Rattle.far_events.specs.declared.event.Event.TheVariants.{Look}
+use Rattle.far_events.specs.declared.event.Reply.TheVariants.{Word}
+use Rattle.far_events.specs.events.Legal.{Legal}
 use Rattle.far_hand.specs.MayBe.{beside_itself}
 use Rattle.far_hand.proofs.Making.{turn_then}
 use Rattle.far_hand.proofs.beset.hand.BesetNear.look.Goals as goal

@@ -1,14 +1,14 @@
 use Rattle.std.proofs.Common.{refl, sym, subst, ap, ◌∙◌, ◌≡◌, ◌*◌, ◌<◌, ℕ, bit_or}
 use Rattle.far_word.specs.declared.sizes.TheConstants.{CELLS, LOG_WORDS}
-use Rattle.far_core.specs.declared.event.Event.TheVariants.{Mark}
-use Rattle.far_core.specs.events.Legal.{Legal}
+use Rattle.far_events.specs.declared.event.Event.TheVariants.{Mark}
+use Rattle.far_events.specs.events.Legal.{Legal}
 use Rattle.far_core.specs.state.CoreState.{core_state}
-use Rattle.far_core.specs.state.State.{State, put}
+use Rattle.far_events.specs.state.State.{State, put}
 use Rattle.far_hand.specs.BesetView.{beset_view}
 use Rattle.far_hand.specs.Masked.{word_at, is_counted, AllFind, AllFindJobs, CountsOnRest}
 use Rattle.far_hand.proofs.Counting.{finds_named}
 use Rattle.far_hand.proofs.EvacMarks.{with_evac, counts_marked, legal_mark}
-use Rattle.far_core.specs.declared.event.Reply.TheVariants.{Word}
+use Rattle.far_events.specs.declared.event.Reply.TheVariants.{Word}
 use Rattle.far_hand.proofs.Making.{turn_then}
 use Rattle.far_hand.proofs.beset.hand.BesetNear.mark.Goals as goal
 

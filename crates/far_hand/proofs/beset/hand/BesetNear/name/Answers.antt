@@ -1,10 +1,10 @@
 use Rattle.std.proofs.Common.{refl, sym, subst, ap, ◌∙◌, ◌≡◌, ◌*◌, ℕ, false}
 use Rattle.far_word.specs.declared.sizes.TheConstants.{CELLS, LOG_WORDS}
-use Rattle.far_core.specs.declared.event.Event.TheVariants.{Name}
-use Rattle.far_core.specs.events.Legal.{Legal}
-use Rattle.far_core.specs.events.Step.{after}
+use Rattle.far_events.specs.declared.event.Event.TheVariants.{Name}
+use Rattle.far_events.specs.events.Legal.{Legal}
+use Rattle.far_events.specs.events.Step.{after}
 use Rattle.far_core.specs.state.CoreState.{core_state}
-use Rattle.far_core.specs.state.State.{State, put}
+use Rattle.far_events.specs.state.State.{State, put}
 use Rattle.far_hand.specs.BesetView.{beset_view}
 use Rattle.far_hand.specs.Finds.{Finds}
 use Rattle.far_hand.specs.Known.{KnowsLeaving}
@@ -12,7 +12,7 @@ use Rattle.far_hand.specs.Masked.{masked, word_at, is_counted, AllFind, AllFindJ
 use Rattle.far_hand.proofs.Counting.{counts_found, finds_named, finds_put}
 use Rattle.far_hand.proofs.Finding.{finds_seen}
 use Rattle.far_hand.proofs.Naming.{Names, legal_name, names, rows_name, cells_named, jobs_named, sizes_named, won, lost, lost_word, lost_state}
-use Rattle.far_core.specs.declared.event.Reply.TheVariants.{Done, Word}
+use Rattle.far_events.specs.declared.event.Reply.TheVariants.{Done, Word}
 use Rattle.far_hand.proofs.Making.{none_rest, turn_then}
 use Rattle.far_hand.proofs.beset.hand.BesetNear.name.Goals as goal
 

@@ -1,6 +1,6 @@
 use Rattle.std.proofs.Common.{ap, ◌∙◌, refl}
 use Rattle.far_core.specs.state.CoreState.{core_state}
-use Rattle.far_core.specs.state.State.{put}
+use Rattle.far_events.specs.state.State.{put}
 use Rattle.far_hand.proofs.Making.{job_set_rows, none_rest, rows_forget, turn_then}
 use Rattle.far_hand.proofs.Offering.{hand_offers}
 use Rattle.far_hand.proofs.beset.hand.BesetNear.offer.Goals as goal

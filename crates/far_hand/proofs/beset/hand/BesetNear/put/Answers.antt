@@ -1,15 +1,15 @@
 use Rattle.std.proofs.Common.{sym, subst, ap, ◌∙◌, ◌*◌, ◌+◌, ℕ, Bool, refl}
 use Rattle.far_word.specs.declared.sizes.TheConstants.{CELLS, LOG_WORDS}
-use Rattle.far_core.specs.declared.event.Event.TheVariants.{Put}
-use Rattle.far_core.specs.events.Legal.{Legal}
-use Rattle.far_core.specs.events.Step.{after}
+use Rattle.far_events.specs.declared.event.Event.TheVariants.{Put}
+use Rattle.far_events.specs.events.Legal.{Legal}
+use Rattle.far_events.specs.events.Step.{after}
 use Rattle.far_core.specs.state.CoreState.{core_state}
-use Rattle.far_core.specs.state.State.{State, put}
+use Rattle.far_events.specs.state.State.{State, put}
 use Rattle.far_hand.specs.BesetView.{beset_view}
 use Rattle.far_hand.specs.Masked.{masked, word_at, is_counted, AllFind, AllFindJobs, CountsOnRest}
 use Rattle.far_hand.proofs.Counting.{counts_past}
 use Rattle.far_hand.proofs.Reading.{put_view}
-use Rattle.far_core.specs.declared.event.Reply.TheVariants.{Done}
+use Rattle.far_events.specs.declared.event.Reply.TheVariants.{Done}
 use Rattle.far_hand.proofs.Making.{turn_then}
 use Rattle.far_hand.proofs.beset.hand.BesetNear.put.Goals as goal
 

@@ -3,10 +3,10 @@ use Rattle.far_core.specs.state.CoreState.{core_state}
 use Rattle.far_hand.specs.Masked.{word_at, is_counted, AllFind, CountsOnRest}
 use Rattle.far_hand.proofs.Counting.{counts_found, finds_put}
 use Rattle.far_hand.proofs.Finding.{finds_seen}
-use Rattle.far_core.specs.declared.event.Event.TheVariants.{See}
-use Rattle.far_core.specs.declared.event.Reply.TheVariants.{Word}
-use Rattle.far_core.specs.events.Legal.{Legal}
-use Rattle.far_core.specs.state.State.{State}
+use Rattle.far_events.specs.declared.event.Event.TheVariants.{See}
+use Rattle.far_events.specs.declared.event.Reply.TheVariants.{Word}
+use Rattle.far_events.specs.events.Legal.{Legal}
+use Rattle.far_events.specs.state.State.{State}
 use Rattle.far_hand.specs.BesetView.{beset_view}
 use Rattle.far_hand.proofs.Making.{turn_then}
 use Rattle.far_hand.proofs.beset.hand.BesetNear.see.Goals as goal

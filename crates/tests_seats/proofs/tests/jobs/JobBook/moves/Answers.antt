@@ -1,6 +1,6 @@
 use Rattle.std.proofs.Common.{◌≡◌, sym, ap, subst, ◌∙◌, arith}
-use Rattle.far_core.specs.declared.shape.Shape.{Shape}
-use Rattle.far_core.specs.state.State.{State}
+use Rattle.far_events.specs.declared.shape.Shape.{Shape}
+use Rattle.far_events.specs.state.State.{State}
 use Rattle.tests_seats.specs.Offers.{HasRoom, HasRound, IsMarked, KnowsJobs}
 use Rattle.tests_seats.proofs.Offering.{may_move, moved_then, next_there, past_tail, quiet_there}
 use Rattle.tests_seats.proofs.tests.jobs.JobBook.moves.Goals as goal

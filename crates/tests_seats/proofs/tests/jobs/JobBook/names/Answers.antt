@@ -1,8 +1,8 @@
 use Rattle.std.proofs.Common.{◌≡◌, sym, ap, subst, ◌∙◌, refl, Some}
 use Rattle.far_word.specs.declared.job.JobWord.TheVariants.{Finished}
 use Rattle.far_word.specs.Job.{job_of}
-use Rattle.far_core.specs.state.State.{State}
-use Rattle.far_core.proofs.Put.{put_same}
+use Rattle.far_events.specs.state.State.{State}
+use Rattle.far_events.proofs.Put.{put_same}
 use Rattle.tests_seats.specs.Offers.{HasRound, KnowsJobs, KnowsRoom}
 use Rattle.tests_seats.proofs.Offering.{may_name, named_then}
 use Rattle.tests_seats.proofs.tests.jobs.JobBook.names.Goals as goal

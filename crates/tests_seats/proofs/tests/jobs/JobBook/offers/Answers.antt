@@ -2,8 +2,8 @@ use Rattle.std.proofs.Common.{◌≡◌, ◌+◌, sym, ap, subst, ◌∙◌}
 use Rattle.far_word.specs.declared.job.Job.{Job}
 use Rattle.far_word.specs.declared.pointer.Place.{Place}
 use Rattle.far_word.specs.Sizes.{size_of}
-use Rattle.far_core.specs.events.Offer.{offered}
-use Rattle.far_core.specs.state.State.{State}
+use Rattle.far_events.specs.events.Offer.{offered}
+use Rattle.far_events.specs.state.State.{State}
 use Rattle.far_hand.specs.FindsJob.{job_found}
 use Rattle.tests_seats.specs.Offers.{HasRoom, HasRound, IsMarked, IsRoom, KnowsJobs}
 use Rattle.tests_seats.proofs.Offering.{jobs_after, may_offer, next_there, offered_is, past_tail, room_after, seen, written}

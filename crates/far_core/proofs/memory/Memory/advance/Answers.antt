@@ -1,6 +1,0 @@
-use Rattle.far_core.specs.state.Memory.{state_of}
-use Rattle.far_core.proofs.events.Advance.{advance_parts}
-use Rattle.far_core.proofs.memory.Memory.advance.Goals as goal
-
-pub choose-requires-clause-shut : goal.choose-requires-clause-shut
-choose-requires-clause-shut c = (advance_parts (state_of c.args.self.now) c.args.logs c.requires.legal).1

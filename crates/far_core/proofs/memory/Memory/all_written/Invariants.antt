@@ -1,7 +1,0 @@
-use Rattle.std.proofs.Common.{◌≡◌, true}
-use Rattle.far_core.specs.events.Tasks.{all_written}
-use Rattle.far_core.specs.state.Memory.{state_of}
-use Rattle.far_core.proofs.memory.Memory.all_written.Given as goal
-
-abbrev pub invariant-loop-index : goal.invariant-loop-index
-invariant-loop-index l = all_written ((state_of l.self).copying.written l.copier) l.index ≡ true

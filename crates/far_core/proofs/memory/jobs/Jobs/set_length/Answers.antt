@@ -1,9 +1,0 @@
-use Rattle.std.proofs.Common.{ℕ, ap, arith, Option, None}
-use Rattle.far_core.specs.state.Memory.{copying_of}
-use Rattle.far_core.proofs.Items.{item_put}
-use Rattle.far_core.proofs.memory.jobs.Jobs.set_length.Goals as goal
-
-pub returns : goal.returns
-unfolding copying_of
-returns c = ap (λ (f : ℕ → Option ℕ). record (copying_of c.args.self.now) { length = f })
-    (item_put c.args.self.now.lengths c.args.copier c.args.length None (omega (arith, c.requires, c.args.self.now.lengths_sized)))

@@ -1,0 +1,4 @@
+pub mod Advance
+pub mod Finish
+pub mod Get
+pub mod Offer

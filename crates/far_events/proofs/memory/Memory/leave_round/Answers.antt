@@ -1,0 +1,9 @@
+use Rattle.std.proofs.Common.{ℕ, ap, arith, Bool, false}
+use Rattle.far_events.specs.state.Memory.{state_of}
+use Rattle.far_events.proofs.Items.{item_put}
+use Rattle.far_events.proofs.memory.Memory.leave_round.Goals as goal
+
+pub returns : goal.returns
+unfolding state_of
+returns c = ap (λ (f : ℕ → Bool). record (state_of c.args.self.now) { round = f })
+    (item_put c.args.self.now.round.items c.args.log false false (omega (arith, c.requires, c.args.self.now.round_sized, c.args.self.now.round.ok.0)))

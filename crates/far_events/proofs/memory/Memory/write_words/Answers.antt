@@ -1,0 +1,7 @@
+use Rattle.std.proofs.Common.{ℕ, ap}
+use Rattle.far_events.specs.state.Memory.{state_of}
+use Rattle.far_events.proofs.memory.Memory.write_words.Goals as goal
+
+pub returns : goal.returns
+unfolding state_of
+returns c = ap (λ (f : ℕ → ℕ). record (state_of c.args.self.now) { word = f }) c.store.ensures.words

@@ -1,0 +1,14 @@
+pub mod Bits
+pub mod CopierRows
+pub mod Ends
+pub mod Jobs
+pub mod Law
+pub mod Memory
+pub mod Opening
+pub mod Rows
+pub mod Shape
+pub mod Spans
+pub mod State
+pub mod Stored
+pub mod StoredRows
+pub mod Words
