@@ -10,6 +10,9 @@ python3 $here/2_edits.py . far_forms
 python3 $here/5_more_edits.py .
 python3 $here/6_pages.py .
 python3 $here/7_names.py .
+python3 $here/8_flat.py
+python3 $here/9_unused.py . far_rows,far_forms,far_events,far_core --fix >/dev/null
+python3 $here/7_names.py .
 scripts/edits_stand.py
 for crate in far_rows far_forms far_events far_core; do
   (cd "crates/$crate" && rt fmt)

@@ -23,7 +23,7 @@ fn put_below<O: Objects + Drop>(parts: &mut Parts<O>, bytes: &[u8]) -> Result<()
     ensures size { parts.new.size ≡ parts.old.size }
     ensures honest { (O.far parts.new.worker).honest ≡ (O.far parts.old.worker).honest }
 
-    // done: one record more behind the others, in as many blocks; if the worker is honest it has the bytes, and the others what they had
+    // the array is as it should be; done: one record more behind the others, in as many blocks; if the worker is honest it has the bytes, and the others what they had
     ensures blocks { OnOk result (length parts.new.blocks.items ≡ length parts.old.blocks.items) }
     ensures len { OnOk result (parts.new.len ≡ parts.old.len + 1) }
     ensures sound { Sound (O.far parts.new.worker) parts.new.blocks.items parts.new.per parts.new.size parts.new.len }
@@ -55,7 +55,7 @@ fn put_above<O: Objects + Drop>(parts: &mut Parts<O>, bytes: &[u8]) -> Result<()
     ensures size { parts.new.size ≡ parts.old.size }
     ensures honest { (O.far parts.new.worker).honest ≡ (O.far parts.old.worker).honest }
 
-    // done: one record more behind the others, in one block more; if the worker is honest it has the bytes, and the others what they had
+    // the array is as it should be; done: one record more behind the others, in one block more; if the worker is honest it has the bytes, and the others what they had
     ensures blocks { OnOk result (length parts.new.blocks.items ≡ length parts.old.blocks.items + 1) }
     ensures len { OnOk result (parts.new.len ≡ parts.old.len + 1) }
     ensures sound { Sound (O.far parts.new.worker) parts.new.blocks.items parts.new.per parts.new.size parts.new.len }
@@ -85,7 +85,7 @@ pub fn put_row<O: Objects + Drop>(parts: &mut Parts<O>, bytes: &[u8]) -> Result<
     ensures size { parts.new.size ≡ parts.old.size }
     ensures honest { (O.far parts.new.worker).honest ≡ (O.far parts.old.worker).honest }
 
-    // done: one record more behind the others, in one block more if all were full; if the worker is honest it has the bytes, and the others what they had
+    // the array is as it should be; done: one record more behind the others, in one block more if all were full; if the worker is honest it has the bytes, and the others what they had
     ensures blocks { OnOk result (length parts.new.blocks.items ≡ (if nat_lt parts.old.len (parts.old.per * length parts.old.blocks.items) then length parts.old.blocks.items else length parts.old.blocks.items + 1)) }
     ensures len { OnOk result (parts.new.len ≡ parts.old.len + 1) }
     ensures sound { Sound (O.far parts.new.worker) parts.new.blocks.items parts.new.per parts.new.size parts.new.len }

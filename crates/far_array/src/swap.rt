@@ -164,7 +164,7 @@ fn put_both<O: Objects + Drop>(
     ensures honest { (O.far parts.new.worker).honest ≡ (O.far parts.old.worker).honest }
     ensures blocks { length parts.new.blocks.items ≡ length parts.old.blocks.items }
 
-    // done, if the worker is honest: record i has the one bytes, and then record j the other, and no other has changed
+    // the array is as it should be; done, if the worker is honest: record i has the one bytes, and then record j the other, and no other has changed
     ensures sound { Sound (O.far parts.new.worker) parts.new.blocks.items parts.new.per parts.new.size parts.new.len }
     ensures made { (O.far parts.old.worker).honest ≡ true → OnOk result (rows (O.far parts.new.worker) parts.new.blocks.items parts.new.per parts.new.size parts.new.len ≡ slice_set (slice_set (rows (O.far parts.old.worker) parts.old.blocks.items parts.old.per parts.old.size parts.old.len) i one.now) j two.now) }
 
@@ -203,7 +203,7 @@ pub fn swap_rows<O: Objects + Drop>(parts: &mut Parts<O>, i: usize, j: usize) ->
     ensures honest { (O.far parts.new.worker).honest ≡ (O.far parts.old.worker).honest }
     ensures blocks { length parts.new.blocks.items ≡ length parts.old.blocks.items }
 
-    // done, if the worker is honest: the two have changed places, and no other has
+    // the array is as it should be; done, if the worker is honest: the two have changed places, and no other has
     ensures sound { Sound (O.far parts.new.worker) parts.new.blocks.items parts.new.per parts.new.size parts.new.len }
     ensures made { (O.far parts.old.worker).honest ≡ true → OnOk result (rows (O.far parts.new.worker) parts.new.blocks.items parts.new.per parts.new.size parts.new.len ≡ swap (rows (O.far parts.old.worker) parts.old.blocks.items parts.old.per parts.old.size parts.old.len) i j) }
 

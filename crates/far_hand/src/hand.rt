@@ -29,7 +29,7 @@ use crate::words::{packed_whole, unpack_word};
 use far_core::{Event, Reply, Shape};
 use far_word::{Place, Refused};
 
-/// The book's hand on the shared words. Each call but `shape` is one event of [`far_core`] on at most one word, or a row of such events, takes
+/// The book's hand on the shared words. Each call but `shape` is one event of [`far_events`] on at most one word, or a row of such events, takes
 /// no memory and always answers.
 ///
 /// Between any two events, and before each one, owners may add HOT, MOVE or DROP to a cell, change their scope words, and

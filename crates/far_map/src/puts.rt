@@ -24,7 +24,7 @@ pub fn put_new<O: Objects + Drop>(
     key: &[u8],
     value: &[u8],
 ) -> Result<(), Refused>
-    // key and value make an entry, the tag is the key's, the table is as it should be, and no slot has the key
+    // key and value make an entry, the tag is the key's, the table is as it should be, and if the worker is honest no slot has the key
     requires entry { is_entry key.now value.now ≡ true }
     requires some { IsTag tag }
     requires tag { tag ≡ tag_of parts.old.near.seed key.now }
@@ -56,7 +56,7 @@ pub fn put_again<O: Objects + Drop>(
     key: &[u8],
     value: &[u8],
 ) -> Result<(), Refused>
-    // key and value make an entry, the tag is the key's, the table is as it should be, and the key's entry stands at the place
+    // key and value make an entry, the tag is the key's, the table is as it should be, and at the place stands a slot with the tag, the key's if the worker is honest
     requires entry { is_entry key.now value.now ≡ true }
     requires some { IsTag tag }
     requires tag { tag ≡ tag_of parts.old.near.seed key.now }
@@ -101,7 +101,7 @@ fn rewrite<O: Objects + Drop>(
     key: &[u8],
     value: &[u8],
 ) -> Result<(), Refused>
-    // key and value make an entry, of which the value isn't empty, as long as the object at the place, which has this key; the table is as it should be
+    // key and value make an entry, of which the value isn't empty, as long as the object at the place, which has this key if the worker is honest; the table is as it should be
     requires entry { is_entry key.now value.now ≡ true }
     requires more { 0 < length value.now }
     requires long { (O.far parts.old.worker).sizes at.number ≡ Some (2 + length key.now + length value.now) }
@@ -132,7 +132,7 @@ fn renew<O: Objects + Drop>(
     key: &[u8],
     value: &[u8],
 ) -> Result<(), Refused>
-    // key and value make an entry, the tag is the key's, the table is as it should be, and the key's entry stands at the place
+    // key and value make an entry, the tag is the key's, the table is as it should be, and at the place stands a slot with the tag, the key's if the worker is honest
     requires entry { is_entry key.now value.now ≡ true }
     requires some { IsTag tag }
     requires tag { tag ≡ tag_of parts.old.near.seed key.now }

@@ -33,7 +33,8 @@ pub fn add<O: Objects + Drop>(
     key: &[u8],
     value: &[u8],
 ) -> Result<(), Refused>
-    // the bytes are the entry of key and value, and no more than an object has; the tag is the key's, the table is as it should be, and no slot has the key
+    // the bytes are the entry of key and value, and no more than an object has; the tag is the key's, the table is as it should be, and if the worker is honest no slot has
+    // the key
     requires some { IsTag tag }
     requires tag { tag ≡ tag_of parts.old.near.seed key.now }
     requires bytes { bytes.now ≡ encoded key.now value.now }
@@ -87,8 +88,8 @@ pub fn replace<O: Objects + Drop>(
     key: &[u8],
     value: &[u8],
 ) -> Result<(), Refused>
-    // the bytes are the entry of key and value, and no more than an object has; the tag is the key's, the table is as it should be, and the key's
-    // entry stands at the place
+    // the bytes are the entry of key and value, and no more than an object has; the tag is the key's, the table is as it should be, and at the
+    // place stands a slot with the tag, the key's if the worker is honest
     requires some { IsTag tag }
     requires tag { tag ≡ tag_of parts.old.near.seed key.now }
     requires bytes { bytes.now ≡ encoded key.now value.now }

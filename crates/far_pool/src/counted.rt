@@ -290,7 +290,7 @@ impl<D: Device + Drop> Counted<D> {
         ensures done { OnOk result (refusal_of (found self.old pointer generation) from (length bytes.old) ≡ None) }
         ensures barred { (why : Refusal) → refusal_of (found self.old pointer generation) from (length bytes.old) ≡ Some why → result ≡ Err why }
 
-        // else it's refused only by the outside: no room, in three logs or more, as the device refused an object, or as it didn't give this one
+        // else it's `EpochsSpent`, or no room, in three logs or more only as the device refused an object, or as the device didn't give this one
         ensures why { IfErr result (λ why. IsWhyNoAccess self.old.honest (refusal_of (found self.old pointer generation) from (length bytes.old)) why) }
         ensures room { result ≡ Err NoRoom → 3 ≤ self.old.logs → IsNotTaken D D.writes (object_on self.old) }
         ensures given { IfErr result (λ why. IsNotGiven D D.reads pointer (len_of (found self.old pointer generation)) why) }

@@ -57,7 +57,7 @@ pub(crate) fn overwrite<D: Device + Drop>(
     from: u16,
     bytes: &[u8],
 )
-    // the object is in use and lies where a view may rest, and the range, one byte or more, lies within it
+    // a settled heap; the object is in use and lies where a view may rest, and the range, one byte or more, lies within it
     requires settled { Settled (state_in evac.old) }
     requires used { (state_in evac.old).used pointer ≡ true }
     requires rests { IsSome (place_to_view (read_of ((state_in evac.old).cell pointer))) }
@@ -65,7 +65,7 @@ pub(crate) fn overwrite<D: Device + Drop>(
     requires inside { from + length bytes.now ≤ len_in (objects_of (state_in evac.old)) pointer }
     requires most { from + length bytes.now ≤ LONGEST }
 
-    // the range has these bytes then, and callers see no other change; the object is in use and lies where a view may rest, as before
+    // it is settled again; the range has these bytes, and callers see no other change; the object is in use and lies where a view may rest, as before
     ensures settled { Settled (state_in evac.new) }
     ensures written { objects_of (state_in evac.new) ≡ with_written pointer from bytes.now (objects_of (state_in evac.old)) }
     ensures used { (state_in evac.new).used pointer ≡ true }

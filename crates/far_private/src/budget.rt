@@ -14,8 +14,8 @@ use far_evac::Evac;
 
 /// The rounds that a call may make yet.
 ///
-/// Where a call finds no room, one log at most is free, and a round takes the two oldest of the sealed ones (of three logs
-/// one alone is sealed then). It gives each back: what is hot there moves to another log and lacks HOT from then on, what
+/// Where a call finds no room, one log at most is free, and a round takes the two oldest of the sealed ones, or an eighth of all
+/// logs if that is more (of three logs one alone is sealed then). It gives each back: what is hot there moves to another log and lacks HOT from then on, what
 /// isn't goes far, and what the device refuses moves too. A log that is opened meanwhile is the youngest. So `logs / 2 + 1`
 /// rounds, a *pass*, take each log that had an object when they began, the open one too, unless two logs are free before,
 /// which is room for any object. After a pass no object that is near is hot, and the next round frees its logs whole, as far

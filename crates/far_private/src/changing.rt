@@ -31,11 +31,11 @@ pub(crate) fn change_range<D: Device + Drop, F: FnOnce(&mut [u8])>(
     bytes: &mut [u8],
     change: F,
 ) -> Result<(), Refused>
-    // `change` may be called on whatever is read
+    // a settled heap; `change` may be called on whatever is read
     requires settled { Settled (state_in evac.old) }
     requires takes { (read : List ℕ) → length read ≡ length bytes.old → FnOnceTakesAtMut F.FnOnce change read }
 
-    // done: `change` was called once, on what was read, and the range has what it made of that; callers see no other change
+    // it is settled again; done: `change` was called once, on what was read, and the range has what it made of that; callers see no other change
     ensures settled { Settled (state_in evac.new) }
     ensures changed { OnOk result (Changes (FnOnceReturnsAtMut F.FnOnce change) pointer from (length bytes.old) bytes.new (objects_of (state_in evac.old)) (objects_of (state_in evac.new))) }
 
@@ -69,7 +69,7 @@ fn change_reached<D: Device + Drop, F: FnOnce(&mut [u8])>(
     bytes: &mut [u8],
     change: F,
 ) -> Result<(), Refused>
-    // the object is in use, the range, one byte or more, lies within it, and `change` may be called on whatever is read
+    // a settled heap; the object is in use, the range, one byte or more, lies within it, and `change` may be called on whatever is read
     requires settled { Settled (state_in evac.old) }
     requires used { (state_in evac.old).used pointer ≡ true }
     requires some { 0 < length bytes.old }
@@ -77,7 +77,7 @@ fn change_reached<D: Device + Drop, F: FnOnce(&mut [u8])>(
     requires most { from + length bytes.old ≤ LONGEST }
     requires takes { (read : List ℕ) → length read ≡ length bytes.old → FnOnceTakesAtMut F.FnOnce change read }
 
-    // done: `change` was called once, on what was read, and the range has what it made of that; callers see no other change
+    // it is settled again; done: `change` was called once, on what was read, and the range has what it made of that; callers see no other change
     ensures settled { Settled (state_in evac.new) }
     ensures changed { OnOk result (Changes (FnOnceReturnsAtMut F.FnOnce change) pointer from (length bytes.old) bytes.new (objects_of (state_in evac.old)) (objects_of (state_in evac.new))) }
 
@@ -147,7 +147,7 @@ fn take<D: Device + Drop>(
     from: u16,
     out: &mut [u8],
 ) -> Result<(), Refused>
-    // the object is in use, and the range lies within it
+    // a settled heap; the object is in use, and the range lies within it
     requires settled { Settled (state_in evac.old) }
     requires used { (state_in evac.old).used pointer ≡ true }
     requires inside { from + length out.old ≤ len_in (objects_of (state_in evac.old)) pointer }

@@ -21,18 +21,18 @@ pub(crate) fn place_with<D: Device + Drop>(
     bytes: &[u8],
     structure: u8,
 ) -> Result<(), Refused>
-    // the pointer's cell is free, and the bytes are as many as an object may have
+    // a settled heap; the pointer's cell is free, and the bytes are as many as an object may have
     requires settled { Settled (state_in evac.old) }
     requires free { (state_in evac.old).cell pointer ≡ 0 }
     requires pointer { pointer < 2048 }
     requires some { 0 < length bytes.now }
     requires most { length bytes.now ≤ LONGEST }
 
-    // done: the pointer has a new object of these bytes and this data structure, and no other has changed
+    // it is settled again; done: the pointer has a new object of these bytes and this data structure, and no other has changed
     ensures settled { Settled (state_in evac.new) }
     ensures made { IfOk result (λ _. objects_of (state_in evac.new) ≡ with_made pointer structure bytes.now (objects_of (state_in evac.old))) }
 
-    // refused: no object has changed; there is no room, in three logs or more only as the device refused an object, or all rounds are spent
+    // refused: no object has changed; there is no room, in three logs or more only as the device refused an object, or it is `EpochsSpent`
     ensures refused { OnErr result (objects_of (state_in evac.new) ≡ objects_of (state_in evac.old)) }
     ensures why { IfErr result (λ why. IsWant why) }
     ensures stuck { IfErr result (λ why. IsStuck D D.writes (state_in evac.old) why) }

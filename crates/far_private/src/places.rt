@@ -38,18 +38,18 @@ pub(crate) fn place_new<D: Device + Drop>(
     len: u16,
     structure: u8,
 ) -> Result<(), Refused>
-    // the pointer's cell is free, and the length is one that an object may have
+    // a settled heap; the pointer's cell is free, and the length is one that an object may have
     requires settled { Settled (state_in evac.old) }
     requires free { (state_in evac.old).cell pointer ≡ 0 }
     requires pointer { pointer < 2048 }
     requires some { 0 < len }
     requires most { len ≤ LONGEST }
 
-    // done: the pointer has a new object of so many zeros and of this data structure, and no other has changed
+    // it is settled again; done: the pointer has a new object of so many zeros and of this data structure, and no other has changed
     ensures settled { Settled (state_in evac.new) }
     ensures made { IfOk result (λ _. objects_of (state_in evac.new) ≡ with_new pointer len structure (objects_of (state_in evac.old))) }
 
-    // refused: no object has changed; there is no room, in three logs or more only as the device refused an object, or all rounds are spent
+    // refused: no object has changed; there is no room, in three logs or more only as the device refused an object, or it is `EpochsSpent`
     ensures refused { OnErr result (objects_of (state_in evac.new) ≡ objects_of (state_in evac.old)) }
     ensures why { IfErr result (λ why. IsWant why) }
     ensures stuck { IfErr result (λ why. IsStuck D D.writes (state_in evac.old) why) }
@@ -69,7 +69,7 @@ pub(crate) fn place_filled<D: Device + Drop>(
     bytes: &[u8],
     structure: u8,
 ) -> Result<(), Refused>
-    // the pointer's cell is free, the length is one that an object may have, and the bytes are no more than that
+    // a settled heap; the pointer's cell is free, the length is one that an object may have, and the bytes are no more than that
     requires settled { Settled (state_in evac.old) }
     requires free { (state_in evac.old).cell pointer ≡ 0 }
     requires pointer { pointer < 2048 }
@@ -77,11 +77,11 @@ pub(crate) fn place_filled<D: Device + Drop>(
     requires most { len ≤ LONGEST }
     requires front { length bytes.now ≤ len }
 
-    // done: the pointer has a new object of this length and data structure, with these bytes and 0 behind them, and no other has changed
+    // it is settled again; done: the pointer has a new object of this length and data structure, with these bytes and 0 behind them, and no other has changed
     ensures settled { Settled (state_in evac.new) }
     ensures made { IfOk result (λ _. objects_of (state_in evac.new) ≡ with_filled pointer len structure bytes.now (objects_of (state_in evac.old))) }
 
-    // refused: no object has changed; there is no room, in three logs or more only as the device refused an object, or all rounds are spent
+    // refused: no object has changed; there is no room, in three logs or more only as the device refused an object, or it is `EpochsSpent`
     ensures refused { OnErr result (objects_of (state_in evac.new) ≡ objects_of (state_in evac.old)) }
     ensures why { IfErr result (λ why. IsWant why) }
     ensures stuck { IfErr result (λ why. IsStuck D D.writes (state_in evac.old) why) }
@@ -104,7 +104,7 @@ fn place_by_rounds<D: Device + Drop>(
     bytes: &[u8],
     structure: u8,
 ) -> Result<(), Refused>
-    // the pointer's cell is free, the length is one that an object may have, and the bytes are no more than that
+    // a settled heap; the pointer's cell is free, the length is one that an object may have, and the bytes are no more than that
     requires settled { Settled (state_in evac.old) }
     requires free { (state_in evac.old).cell pointer ≡ 0 }
     requires pointer { pointer < 2048 }
@@ -112,11 +112,11 @@ fn place_by_rounds<D: Device + Drop>(
     requires most { len ≤ LONGEST }
     requires front { length bytes.now ≤ len }
 
-    // done: the pointer has a new object of this length and data structure, with these bytes and 0 behind them, and no other has changed
+    // it is settled again; done: the pointer has a new object of this length and data structure, with these bytes and 0 behind them, and no other has changed
     ensures settled { Settled (state_in evac.new) }
     ensures made { IfOk result (λ _. objects_of (state_in evac.new) ≡ with_filled pointer len structure bytes.now (objects_of (state_in evac.old))) }
 
-    // refused: no object has changed; there is no room, in three logs or more only as the device refused an object, or all rounds are spent
+    // refused: no object has changed; there is no room, in three logs or more only as the device refused an object, or it is `EpochsSpent`
     ensures refused { OnErr result (objects_of (state_in evac.new) ≡ objects_of (state_in evac.old)) }
     ensures why { IfErr result (λ why. IsWant why) }
     ensures stuck { IfErr result (λ why. IsStuck D D.writes (state_in evac.old) why) }
@@ -141,7 +141,7 @@ fn place_last<D: Device + Drop>(
     bytes: &[u8],
     structure: u8,
 ) -> Result<(), Refused>
-    // the pointer's cell is free, the length is one that an object may have, and the bytes are no more than that
+    // a settled heap; the pointer's cell is free, the length is one that an object may have, and the bytes are no more than that
     requires settled { Settled (state_in evac.old) }
     requires free { (state_in evac.old).cell pointer ≡ 0 }
     requires pointer { pointer < 2048 }
@@ -149,11 +149,11 @@ fn place_last<D: Device + Drop>(
     requires most { len ≤ LONGEST }
     requires front { length bytes.now ≤ len }
 
-    // done: the pointer has a new object of this length and data structure, with these bytes and 0 behind them, and no other has changed
+    // it is settled again; done: the pointer has a new object of this length and data structure, with these bytes and 0 behind them, and no other has changed
     ensures settled { Settled (state_in evac.new) }
     ensures made { IfOk result (λ _. objects_of (state_in evac.new) ≡ with_filled pointer len structure bytes.now (objects_of (state_in evac.old))) }
 
-    // refused: no object has changed; there is no room, in three logs or more only as the device refused an object, or all rounds are spent
+    // refused: no object has changed; there is no room, in three logs or more only as the device refused an object, or it is `EpochsSpent`
     ensures refused { OnErr result (objects_of (state_in evac.new) ≡ objects_of (state_in evac.old)) }
     ensures why { IfErr result (λ why. IsWant why) }
     ensures stuck { IfErr result (λ why. IsStuck D D.writes (state_in evac.old) why) }
@@ -177,7 +177,7 @@ fn place_now<D: Device + Drop>(
     bytes: &[u8],
     structure: u8,
 ) -> bool
-    // the pointer's cell is free, the length is one that an object may have, and the bytes are no more than that
+    // a settled heap; the pointer's cell is free, the length is one that an object may have, and the bytes are no more than that
     requires settled { Settled (state_in evac.old) }
     requires free { (state_in evac.old).cell pointer ≡ 0 }
     requires pointer { pointer < 2048 }

@@ -81,10 +81,10 @@ pub(crate) fn read_range<D: Device + Drop>(
     ensures keeps { Keeps (state_in evac.old) (state_in evac.new) }
     ensures idle { evac.old.phase ≡ Idle → evac.new.phase ≡ Idle }
 
-    // barred: the pointer has no object, or the range doesn't lie in it; nothing else was looked at then
+    // barred: the pointer has no object, or the range has no byte or doesn't lie in it
     ensures barred { (why : Refusal) → access_refusal (objects_of (state_in evac.old)) pointer from (length out.old) ≡ Some why → result ≡ Err why }
 
-    // done: the range as it was written last, if the far side is honest; of a near object it always is
+    // done: the range as it was written last, if the far side is honest; a read of a near object is always done
     ensures read { OnOk result (IfSome (bytes_in (objects_of (state_in evac.old)) pointer) (λ bytes. out.new ≡ slice_range bytes from (from + length out.old))) }
     ensures near { access_refusal (objects_of (state_in evac.old)) pointer from (length out.old) ≡ None → says_near (read_of ((state_in evac.old).cell pointer)) ≡ true → result ≡ Ok tt }
 
@@ -121,7 +121,7 @@ fn read_reached<D: Device + Drop>(
     ensures keeps { Keeps (state_in evac.old) (state_in evac.new) }
     ensures idle { evac.old.phase ≡ Idle → evac.new.phase ≡ Idle }
 
-    // done: the range as it was written last, if the far side is honest; of a near object it always is
+    // done: the range as it was written last, if the far side is honest; a read of a near object is always done
     ensures read { OnOk result (IsRead (objects_of (state_in evac.old)) pointer from (length out.old) out.new) }
     ensures near { says_near (read_of ((state_in evac.old).cell pointer)) ≡ true → result ≡ Ok tt }
 
@@ -248,11 +248,11 @@ fn read_brought<D: Device + Drop>(
     ensures keeps { Keeps (state_in evac.old) (state_in evac.new) }
     ensures idle { evac.old.phase ≡ Idle → evac.new.phase ≡ Idle }
 
-    // done: the range as it was written last, if the far side is honest; of a near object it always is
+    // done: the range as it was written last, if the far side is honest; a read of a near object is always done
     ensures read { OnOk result (IsRead (objects_of (state_in evac.old)) pointer from (length out.old) out.new) }
     ensures near { says_near (read_of ((state_in evac.old).cell pointer)) ≡ true → result ≡ Ok tt }
 
-    // refused: `out` is as it was, and the object stays far, as no log has room for it or by a fault of the device, asked for it, and want of room only where the device refused to take an object
+    // refused: `out` is as it was, and the object stays far, as no log has room for it or by a fault of the device, asked for it; no room, in three logs or more, only as the device refused an object
     ensures kept { OnErr result (out.new ≡ out.old) }
     ensures far { IfErr result (λ why. StaysFar D D.reads (state_in evac.new) pointer evac.new.book.device why) }
     ensures stuck { IfErr result (λ why. IsStuck D D.writes (state_in evac.old) why) }
@@ -289,7 +289,7 @@ fn read_again<D: Device + Drop>(
     // done: the range as it was written last, if the far side is honest
     ensures read { OnOk result (IsRead (objects_of (state_in evac.old)) pointer from (length out.old) out.new) }
 
-    // refused: `out` is as it was, and the object stays far, as no log has room for it or by a fault of the device, asked for it, and want of room only where the device refused to take an object
+    // refused: `out` is as it was, and the object stays far, as no log has room for it or by a fault of the device, asked for it; no room, in three logs or more, only as the device refused an object
     ensures kept { OnErr result (out.new ≡ out.old) }
     ensures far { IfErr result (λ why. StaysFar D D.reads (state_in evac.new) pointer evac.new.book.device why) }
     ensures stuck { IfErr result (λ why. IsStuck D D.writes (state_in evac.old) why) }
@@ -326,7 +326,7 @@ fn read_last<D: Device + Drop>(
     // done: the range as it was written last, if the far side is honest
     ensures read { OnOk result (IsRead (objects_of (state_in evac.old)) pointer from (length out.old) out.new) }
 
-    // refused: `out` is as it was, and the object stays far, as no log has room for it or by a fault of the device, asked for it, and want of room only where the device refused to take an object
+    // refused: `out` is as it was, and the object stays far, as no log has room for it or by a fault of the device, asked for it; no room, in three logs or more, only as the device refused an object
     ensures kept { OnErr result (out.new ≡ out.old) }
     ensures far { IfErr result (λ why. StaysFar D D.reads (state_in evac.new) pointer evac.new.book.device why) }
     ensures stuck { IfErr result (λ why. IsStuck D D.writes (state_in evac.old) why) }
@@ -357,7 +357,7 @@ fn read_once<D: Device + Drop>(
     ensures keeps { Keeps (state_in evac.old) (state_in evac.new) }
     ensures idle { evac.old.phase ≡ Idle → evac.new.phase ≡ Idle }
 
-    // done: the range as it was written last, if the far side is honest; of a near object it always is
+    // done: the range as it was written last, if the far side is honest; a read of a near object is always done
     ensures read { OnOk result (IsRead (objects_of (state_in evac.old)) pointer from (length out.old) out.new) }
     ensures near { says_near (read_of ((state_in evac.old).cell pointer)) ≡ true → result ≡ Ok tt }
 
@@ -474,7 +474,7 @@ fn write_reached<D: Device + Drop>(
     // done: the range has these bytes, and nothing else has changed
     ensures written { OnOk result (objects_of (state_in evac.new) ≡ with_written pointer from bytes.now (objects_of (state_in evac.old))) }
 
-    // refused: nothing has changed; the object can't be brought to where it may be written, and there is want of room only where the device refused to take an object
+    // refused: nothing has changed; the object can't be brought to where it may be written; no room, in three logs or more, only as the device refused an object
     ensures refused { OnErr result (objects_of (state_in evac.new) ≡ objects_of (state_in evac.old)) }
     ensures away { IfErr result (λ why. StaysAway D D.reads (state_in evac.new) pointer evac.new.book.device why) }
     ensures stuck { IfErr result (λ why. IsStuck D D.writes (state_in evac.old) why) }
@@ -509,7 +509,7 @@ fn write_brought<D: Device + Drop>(
     // done: the range has these bytes, and nothing else has changed
     ensures written { OnOk result (objects_of (state_in evac.new) ≡ with_written pointer from bytes.now (objects_of (state_in evac.old))) }
 
-    // refused: nothing has changed; the object can't be brought to where it may be written, and there is want of room only where the device refused to take an object
+    // refused: nothing has changed; the object can't be brought to where it may be written; no room, in three logs or more, only as the device refused an object
     ensures refused { OnErr result (objects_of (state_in evac.new) ≡ objects_of (state_in evac.old)) }
     ensures away { IfErr result (λ why. StaysAway D D.reads (state_in evac.new) pointer evac.new.book.device why) }
     ensures stuck { IfErr result (λ why. IsStuck D D.writes (state_in evac.old) why) }

@@ -47,7 +47,7 @@ impl Model for Job {
     ghost invariant = { λ j. IsKept j.at j.offered j.from j.to j.end };
 }
 
-/// A copier's seat on the shared words. Each step of a call is one event of [`far_core`], one atomic step; no call takes memory, and
+/// A copier's seat on the shared words. Each step of a call is one event of [`far_events`], one atomic step; no call takes memory, and
 /// each always answers.
 ///
 /// A copier that has no job claims one, copies its words one by one, and finishes the job.

@@ -2,7 +2,7 @@
 //!
 //! The words of a heap lie in one shared table. A seat is a token with a view, what its holder knows; a call of a seat makes one
 //! atomic step on one word, or several, one after the other. A rule about all words and all views holds between any two steps: together they are a state of
-//! [`far_core`] under its law, and each view is right about the words.
+//! [`far_events`] under its law, and each view is right about the words.
 #![tactic(auto)]
 
 mod book;

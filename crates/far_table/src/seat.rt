@@ -37,7 +37,7 @@ use std::alloc::{AllocError, Global};
 use std::marker::Model;
 use std::sync::Arc;
 
-/// An owner's seat on the shared words. Each call is one event of [`far_core`], one atomic step; [`MutSeat::load_words`] and [`MutSeat::store_words`] make one for each
+/// An owner's seat on the shared words. Each call is one event of [`far_events`], one atomic step; [`MutSeat::load_words`] and [`MutSeat::store_words`] make one for each
 /// word. No call takes memory, and each always answers.
 #[derive(Drop)]
 pub struct MutSeat<D: Device> {

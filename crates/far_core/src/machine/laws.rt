@@ -142,12 +142,17 @@ impl Core {
 /// The state at the start means the world at the start, and has what its shape says. Nothing is remembered, no cell is
 /// used, all words of the logs are 0, and no log has a span; log 0 is open, all others are free, and there is no round.
 pub fn opening_is_start(shape: Shape, honest: bool)
+    // the world at the start, and what the shape says
     ensures world { world_of (opening shape honest) ≡ start honest }
     ensures shape { ((opening shape honest).logs ≡ shape.logs) × ((opening shape honest).mutators ≡ shape.mutators) × ((opening shape honest).epoch ≡ shape.epoch) }
     ensures honesty { (opening shape honest).honest ≡ honest }
+
+    // no epoch is remembered, no cell is used, each word is 0
     ensures memory { (m : ℕ) → (opening shape honest).remembered m ≡ None }
     ensures words { (a : ℕ) → (opening shape honest).word a ≡ 0 }
     ensures cells { (p : ℕ) → (opening shape honest).cell p ≡ 0 }
+
+    // no log has a span, log 0 is open, the others are free, and there is no round
     ensures tails { (l : ℕ) → (opening shape honest).tail l ≡ 0 }
     ensures begins { (a : ℕ) → (opening shape honest).starts a ≡ false }
     ensures kinds { (l : ℕ) → (opening shape honest).kind l ≡ (if l == 0 then Open else Free) }

@@ -20,14 +20,19 @@ impl Core {
     /// and the owner adopts the pointer, writes the bytes within a scope, asks for the object to be moved, and it stays. Takes no memory.
     #[inline(always)]
     pub fn place_with(&mut self, owner: u8, head: HeadWord, place: Place, bytes: &[u8])
+        // the owner is closed and remembers no epoch, the header is on the layout, and its pointer is the owner's, with a free cell
         requires head { IsHead head }
         requires closed { IsClosed (core_state self.old) owner }
         requires fresh { (core_state self.old).remembered owner ≡ None }
         requires own { head.pointer / CELLS ≡ owner }
         requires free { (core_state self.old).cell head.pointer ≡ 0 }
+
+        // the next span may stand at the place, where it ends within the log, and the bytes are no more than the object has
         requires next { IsNext (core_state self.old) place }
         requires inside { place.at + size_of head.len ≤ LOG_WORDS }
         requires front { length bytes.now ≤ head.len }
+
+        // the object lies there, and events led there, each legal; whether stored words are kept stays
         ensures state { core_state self.new ≡ made_with (core_state self.old) head.pointer head.len head.ds place bytes.now }
         ensures events { core_state self.new ≡ after_events (core_state self.old) (places_with owner head.pointer head.len head.ds place bytes.now) }
         ensures legal { AllLegal (core_state self.old) (places_with owner head.pointer head.len head.ds place bytes.now) }

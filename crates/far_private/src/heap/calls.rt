@@ -27,8 +27,7 @@ use far_word::{LONGEST, Refused};
 impl<D: Device + Drop> PrivateHeap<D> {
     /// Makes an object of these bytes, and answers its pointer, which had none.
     ///
-    /// Refused, in this order: [`Refused::Length`] unless they are 1 to 4,088, [`Refused::NoPointer`] where each of the 2,048 pointers has an
-    /// object, and [`Refused::NoRoom`] where no log has room after so many rounds. Nothing has changed then.
+    /// Refused as [`PrivateHeap::alloc`] is. Nothing has changed then.
     #[inline(always)]
     pub fn alloc_with(&mut self, bytes: &[u8], structure: u8) -> Result<u16, Refused>
         ensures made { IfOk result (λ p. (p < POINTERS) × (object self.old p ≡ None) × (self.new ≡ with_made p structure bytes.now self.old)) }
