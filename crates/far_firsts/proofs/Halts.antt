@@ -41,7 +41,7 @@ finished_refused longest refuses honest end known part count n why a plain some 
   leaves = leaves_all why [] a a (Appends-nil a);
 }
 
-last_is : (xs : List ℕ) → (length xs ≡ 0 → ⊥) → ◌≡◌ {A = List (List ℕ)} (xs ∷ []) (last_of xs)
+pub last_is : (xs : List ℕ) → (length xs ≡ 0 → ⊥) → ◌≡◌ {A = List (List ℕ)} (xs ∷ []) (last_of xs)
 last_is [] f = absurd (f refl)
 last_is (x ∷ xs) f = refl
 

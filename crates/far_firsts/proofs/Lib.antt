@@ -8,5 +8,6 @@ pub mod Halts
 pub mod OneOfEach
 pub mod Stamps
 pub mod Tallies
+pub mod OfEachStamp
 pub mod Tallying
 pub mod Showing

@@ -4,10 +4,11 @@ use Rattle.std.specs.Prelude.{⊤}
 use Rattle.std.specs.Str.{bytes_eq}
 use Rattle.std.proofs.lemmas.Slice.Eq.{bytes_eq-Decides}
 use Rattle.std.proofs.lemmas.List.{append-nil, append_assoc}
-use Rattle.far_seen.specs.Tallied.{Counts, counted, total}
+use Rattle.far_seen.specs.Tallied.{Counts, counted, often, total}
+use Rattle.far_seen.proofs.Counting.{one_here, one_more}
 use Rattle.far_firsts.specs.Lines.{key_of, IsPlain, ArePlain}
 use Rattle.far_firsts.specs.Firsts.{firsts, is_among, unless_among, NoneTwice}
-use Rattle.far_firsts.specs.Tallies.{how_often, tally}
+use Rattle.far_firsts.specs.Tallies.{AreCounted, how_often, stamped, tally}
 use Rattle.far_firsts.specs.Tallying.{count_all, line_for, lines_for}
 use Rattle.far_firsts.proofs.Cuts.{itself}
 use Rattle.far_firsts.proofs.Newness.{next, same_key}
@@ -133,6 +134,29 @@ tally_total lines = ap total (sym (counted_then [] lines)) ∙ total_lines [] li
 pub tally_firsts : (lines ls : List (List ℕ)) → map (λ p. p.0) (paired (λ l. how_often l lines) ls) ≡ ls
 tally_firsts lines [] = refl
 tally_firsts lines (l ∷ ls) = ap (λ xs. l ∷ xs) (tally_firsts lines ls)
+
+-- ---- by stamps
+module _ (stamp : List ℕ → List ℕ) (q : List ℕ) where
+  often_counted : (ps : Counts) (l : List ℕ) → often q (stamped stamp (counted ps l)) ≡ often q ((stamp l, 1) ∷ stamped stamp ps)
+  often_counted [] l = refl
+  often_counted (p ∷ ps) l =
+      elim (bytes_eq p.0 l) as (λ b. bytes_eq p.0 l ≡ b → often q (stamped stamp (cond b ((p.0, p.1 + 1) ∷ ps) (p ∷ counted ps l))) ≡ often q ((stamp l, 1) ∷ stamped stamp (p ∷ ps))) [
+        | true ↦ λ is. one_here (bytes_eq q (stamp p.0)) (bytes_eq q (stamp l)) p.1 (often q (stamped stamp ps)) (ap (λ x. bytes_eq q (stamp x)) ((bytes_eq-Decides p.0 l).0 is))
+        | false ↦ λ is. one_more (bytes_eq q (stamp p.0)) (bytes_eq q (stamp l)) p.1 (often q (stamped stamp ps)) (often q (stamped stamp (counted ps l))) (often_counted ps l)
+      ] refl
+
+  and_one : (b : Bool) (t x p h : ℕ) → t ≡ x + h → x ≡ cond b (1 + p) p → t ≡ p + cond b (h + 1) h
+  and_one true t x p h e f = omega (arith, e, f)
+  and_one false t x p h e f = omega (arith, e, f)
+
+  often_lines : (ps : Counts) (ls : List (List ℕ)) → often q (stamped stamp (count_lines ps ls)) ≡ often q (stamped stamp ps) + how_often q (map stamp ls)
+  often_lines ps [] = omega arith
+  often_lines ps (l ∷ ls) =
+      and_one (bytes_eq q (stamp l)) (often q (stamped stamp (count_lines (counted ps l) ls))) (often q (stamped stamp (counted ps l))) (often q (stamped stamp ps)) (how_often q (map stamp ls))
+      (often_lines (counted ps l) ls) (often_counted ps l)
+
+pub tally_stamps : (stamp : List ℕ → List ℕ) (lines : List (List ℕ)) → AreCounted stamp lines (tally lines)
+tally_stamps stamp lines q = ap (λ ps. often q (stamped stamp ps)) (sym (counted_then [] lines)) ∙ often_lines stamp q [] lines ∙ omega arith
 
 -- ---- what stands for lines
 abbrev keys_for : ℕ → Counts → Counts

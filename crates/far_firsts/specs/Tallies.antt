@@ -4,7 +4,7 @@ use Rattle.std.specs.Str.{bytes_eq}
 use Rattle.std.specs.Io.KnownBytes.{Appends}
 use Rattle.far_word.specs.declared.refused.Refused.{Refused as Refusal}
 use Rattle.far_word.specs.declared.refused.Refused.TheVariants.{Memory}
-use Rattle.far_seen.specs.Tallied.{Counts, total}
+use Rattle.far_seen.specs.Tallied.{Counts, often, total}
 use Rattle.far_firsts.specs.Lines.{lines_of}
 use Rattle.far_firsts.specs.Firsts.{firsts}
 use Rattle.far_firsts.specs.Causes.{IsCause}
@@ -20,6 +20,14 @@ how_often line (l ∷ ls) = cond (bytes_eq line l) (how_often line ls + 1) (how_
 -- the first line of each kind, and how often it is there
 abbrev pub tally : List (List ℕ) → Counts
 tally lines = map (λ l. (l, how_often l lines)) (firsts lines)
+
+-- the stamps of lines, with the counts
+abbrev pub stamped : (List ℕ → List ℕ) → Counts → Counts
+stamped stamp counts = map (λ p. (stamp p.0, p.1)) counts
+
+-- as many lines of each stamp are counted as there are
+abbrev pub AreCounted : (List ℕ → List ℕ) → List (List ℕ) → Counts → Type 0
+AreCounted stamp lines counts = (q : List ℕ) → often q (stamped stamp counts) ≡ how_often q (map stamp lines)
 
 -- a number in seven columns, or in as many as it needs
 abbrev pub in_columns : ℕ → List ℕ
@@ -51,12 +59,14 @@ Prints end TooMany counts before after = Appends before after []
 Prints end (Lost k why) counts before after = Appends before after (counts_text end (take k counts))
 Prints end (Output e) counts before after = (k : ℕ) × Appends before after (take k (counts_text end counts))
 
--- n lines of a text came, and they were counted: as often as they came in all, and where the far side is honest each as often as it
--- came, in the order in which each came first. `left` wasn't read
-pub record TellsCounts (longest : ℕ) (refuses : Refusal → Type 0) (honest : Bool) (end n : ℕ) (ending : Ending) (text : List ℕ) (left before after : Option (List ℕ)) : Type 0 where
+-- n lines of a text came, and they were counted: whatever the far side gives, as often as they came in all, and those of each stamp, by
+-- hash and length, as often as such came; where it is honest, each as often as it came, in the order in which each came first. `left`
+-- wasn't read
+pub record TellsCounts (longest : ℕ) (refuses : Refusal → Type 0) (honest : Bool) (stamp : List ℕ → List ℕ) (end n : ℕ) (ending : Ending) (text : List ℕ) (left before after : Option (List ℕ)) : Type 0 where
   pub within : n ≤ length (lines_of end text)
   pub counts : Counts
   pub total : total counts ≡ n
+  pub stamps : AreCounted stamp (take n (lines_of end text)) counts
   pub exact : honest ≡ true → counts ≡ tally (take n (lines_of end text))
   pub cause : IsEnding longest refuses end n ending text left counts
   pub prints : Prints end ending counts before after

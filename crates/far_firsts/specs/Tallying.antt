@@ -1,14 +1,14 @@
 -- What was counted of a text.
-use Rattle.std.specs.Prelude.{◌≡◌, ℕ, ◌+◌, ◌<◌, ◌≤◌, ◌⊎◌, Bool, true, cond, ⊤, Option, Some, List, [], ◌∷◌, ◌++◌, length, map, drop, take}
+use Rattle.std.specs.Prelude.{◌≡◌, ℕ, ◌+◌, ◌<◌, ◌≤◌, ◌⊎◌, Bool, true, cond, ⊤, Option, Some, List, [], ◌∷◌, ◌++◌, length, map, take}
 use Rattle.std.specs.Str.{bytes_eq}
 use Rattle.std.specs.Io.KnownBytes.{Appends}
 use Rattle.std.specs.FinSet as set
 use Rattle.far_word.specs.declared.refused.Refused.{Refused as Refusal}
 use Rattle.far_word.specs.declared.refused.Refused.TheVariants.{Memory}
-use Rattle.far_seen.specs.Tallied.{Counts, count_of, counted, line_of, total}
-use Rattle.far_firsts.specs.Lines.{lines_of, text_of, key_of, ArePlain}
+use Rattle.far_seen.specs.Tallied.{Counts, Tallied, count_of, counted, line_of, often, times, total}
+use Rattle.far_firsts.specs.Lines.{lines_of, text_of, key_of, stamp_by, ArePlain}
 use Rattle.far_firsts.specs.Doing.{Known, State, last_of, state}
-use Rattle.far_firsts.specs.Tallies.{Prints, counts_text, entry}
+use Rattle.far_firsts.specs.Tallies.{Prints, counts_text, entry, how_often, stamped}
 use Rattle.far_firsts.specs.Causes.{IsCause}
 use Rattle.far_firsts.specs.declared.end.Why.{Why}
 use Rattle.far_firsts.specs.declared.end.Why.TheVariants.{Done as WhyDone, Refused as WhyRefused, Input as WhyInput, Output as WhyOutput, TooMany as WhyTooMany}
@@ -28,37 +28,39 @@ no_set = record { lines = set.empty; stamp = λ l. []; stamps = set.insert set.e
 abbrev pub midst : List ℕ → ℕ → State
 midst part count = state no_set part count
 
--- some lines came, and were counted
-pub record Counted (honest : Bool) (end : ℕ) (old new : Counts) (ended : List (List ℕ)) : Type 0 where
-  pub total : total new ≡ total old + length ended
-  pub exact : honest ≡ true → new ≡ count_all end old ended
+-- some lines came, and were counted: whatever the far side gives, as many of each stamp as there are
+pub record Counted (honest : Bool) (end : ℕ) (old new : Tallied) (ended : List (List ℕ)) : Type 0 where
+  pub total : total new.lines ≡ total old.lines + length ended
+  pub seed : new.seed ≡ old.seed
+  pub stamps : (q : List ℕ) → often q new.stamps ≡ often q old.stamps + how_often q (map (stamp_by old.seed end) ended)
+  pub exact : honest ≡ true → new.lines ≡ count_all end old.lines ended
 
 -- these bytes came: they ended some lines, which were counted
-pub record Came (honest : Bool) (end : ℕ) (bytes part : List ℕ) (was : ℕ) (new : List ℕ) (n : ℕ) (before after : Counts) : Type 0 where
+pub record Came (honest : Bool) (end : ℕ) (bytes part : List ℕ) (was : ℕ) (new : List ℕ) (n : ℕ) (before after : Tallied) : Type 0 where
   pub ended : List (List ℕ)
   pub plain : ArePlain end ended
   pub text : part ++ bytes ≡ text_of end ended ++ new
   pub count : n ≡ was + length ended
   pub counts : Counted honest end before after ended
 
--- so many bytes of a text are counted, in so many reads at most, and these are left
-pub record Gone (honest : Bool) (end reads : ℕ) (text part : List ℕ) (count : ℕ) (counts : Counts) (left : Option (List ℕ)) : Type 0 where
+-- so many bytes of a text are counted since the first read, in so many reads at most, and these are left
+pub record Gone (honest : Bool) (end reads : ℕ) (text part : List ℕ) (count : ℕ) (first tally : Tallied) (left : Option (List ℕ)) : Type 0 where
   pub bytes : List ℕ
   pub rest : List ℕ
   pub all : text ≡ bytes ++ rest
   pub is_left : left ≡ Some rest
   pub long : reads ≤ length bytes
-  pub came : Came honest end bytes [] 0 part count [] counts
+  pub came : Came honest end bytes [] 0 part count first tally
 
 -- the line that the end of the text ends, if there is one
-pub record Last (honest : Bool) (end : ℕ) (part : List ℕ) (was n : ℕ) (before after : Counts) : Type 0 where
+pub record Last (honest : Bool) (end : ℕ) (part : List ℕ) (was n : ℕ) (before after : Tallied) : Type 0 where
   pub count : n ≡ was + length (last_of part)
   pub counts : Counted honest end before after (last_of part)
 
 -- all lines of a text were counted
-pub record Whole (honest : Bool) (end n : ℕ) (text : List ℕ) (tallied : Counts) : Type 0 where
+pub record Whole (honest : Bool) (end n : ℕ) (text : List ℕ) (first tally : Tallied) : Type 0 where
   pub count : n ≡ length (lines_of end text)
-  pub counts : Counted honest end [] tallied (lines_of end text)
+  pub counts : Counted honest end first tally (lines_of end text)
 
 -- why it ended early, after n lines
 abbrev pub IsStop : ℕ → (Refusal → Type 0) → ℕ → ℕ → Why → List ℕ → Option (List ℕ) → Type 0
@@ -83,18 +85,19 @@ line_for end key = cond (bytes_eq key (end ∷ [])) [] key
 abbrev pub lines_for : ℕ → Counts → Counts
 lines_for end counts = map (λ p. (line_for end p.0, p.1)) counts
 
--- a line of a place stands at the end of what is to be written
-pub record Shown (honest : Bool) (end : ℕ) (counts : Counts) (place : ℕ) (before after : List ℕ) : Type 0 where
+-- a line of a place stands at the end of what is to be written, and has the place's stamp
+pub record Shown (honest : Bool) (end : ℕ) (tally : Tallied) (place : ℕ) (before after : List ℕ) : Type 0 where
   pub line : List ℕ
-  pub out : after ≡ before ++ entry end (line, count_of counts place)
-  pub exact : honest ≡ true → line ≡ line_for end (line_of counts place)
+  pub out : after ≡ before ++ entry end (line, count_of tally.lines place)
+  pub stamp : stamp_by tally.seed end line ≡ line_of tally.stamps place
+  pub exact : honest ≡ true → line ≡ line_for end (line_of tally.lines place)
 
 -- so many lines were shown, of which some are written
-pub record Showed (honest : Bool) (end : ℕ) (counts : Counts) (place : ℕ) (out : List ℕ) (before after : Option (List ℕ)) : Type 0 where
+pub record Showed (honest : Bool) (end : ℕ) (tally : Tallied) (place : ℕ) (out : List ℕ) (before after : Option (List ℕ)) : Type 0 where
   pub done : Counts
   pub long : length done ≡ place
-  pub total : total (done ++ drop place counts) ≡ total counts
-  pub exact : honest ≡ true → done ≡ take place (lines_for end counts)
+  pub stamps : stamped (stamp_by tally.seed end) done ≡ take place tally.stamps
+  pub exact : honest ≡ true → done ≡ take place (lines_for end tally.lines)
   pub written : List ℕ
   pub text : written ++ out ≡ counts_text end done
   pub wrote : Appends before after written
@@ -107,10 +110,11 @@ IsShowing refuses n TooMany = ⊥
 IsShowing refuses n (Lost k why) = (k < n) × ((why ≡ Memory) ⊎ refuses why)
 IsShowing refuses n (Output e) = ⊤
 
--- all were shown, or the run ended there
-pub record Shows (refuses : Refusal → Type 0) (honest : Bool) (end : ℕ) (counts : Counts) (ending : Ending) (before after : Option (List ℕ)) : Type 0 where
+-- all were shown, or the run ended there: whatever the rest would have been
+pub record Shows (refuses : Refusal → Type 0) (honest : Bool) (end : ℕ) (tally : Tallied) (ending : Ending) (before after : Option (List ℕ)) : Type 0 where
   pub shown : Counts
-  pub total : total shown ≡ total counts
-  pub exact : honest ≡ true → shown ≡ lines_for end counts
-  pub cause : IsShowing refuses (length shown) ending
-  pub prints : Prints end ending shown before after
+  pub even : times tally.stamps ≡ times tally.lines
+  pub stamps : stamped (stamp_by tally.seed end) shown ≡ take (length shown) tally.stamps
+  pub exact : honest ≡ true → shown ≡ take (length shown) (lines_for end tally.lines)
+  pub cause : IsShowing refuses (length tally.lines) ending
+  pub prints : (rest : Counts) → length shown + length rest ≡ length tally.lines → Prints end ending (shown ++ rest) before after

@@ -1,9 +1,9 @@
 //! Lines are counted.
 
-ghost use Rattle.std.specs.Prelude.{◌≡◌, ◌+◌, ◌<◌, ◌≤◌, ◌++◌, ◌⊎◌, [], true, false, IfErr, IfOk, IfSome, OnOk, OnErr, length};
+ghost use Rattle.std.specs.Prelude.{◌≡◌, ◌+◌, ◌<◌, ◌≤◌, ◌++◌, ◌⊎◌, ◌∷◌, [], ℕ, List, true, false, IfErr, IfOk, IfSome, OnOk, OnErr, length};
 ghost use Rattle.memchr.specs.Find.{IsFirstByte, is_byte};
-ghost use Rattle.far_seen.specs.Tallied.{counted, total};
-ghost use Rattle.far_firsts.specs.Lines.{IsPlain, key_of, lines_of};
+ghost use Rattle.far_seen.specs.Tallied.{counted, often, total};
+ghost use Rattle.far_firsts.specs.Lines.{IsPlain, key_of, lines_of, stamp_by};
 ghost use Rattle.far_firsts.specs.Causes.{IsWhyNext, Refuses};
 ghost use Rattle.far_firsts.specs.Doing.{IsWhyHalt, Stopped};
 ghost use Rattle.far_firsts.specs.Tallying.{Came, IsStop, Last, Whole, midst as state_of};
@@ -23,6 +23,8 @@ fn count_line<O: Objects + Drop>(tally: &mut Tally<O>, end: u8, line: &[u8]) -> 
     ensures honest { tally.new.honest ≡ tally.old.honest }
     ensures counted { tally.old.honest ≡ true → OnOk result (tally.new.lines ≡ counted tally.old.lines (key_of end line.now)) }
     ensures total { OnOk result (total tally.new.lines ≡ total tally.old.lines + 1) }
+    ensures seed { tally.new.seed ≡ tally.old.seed }
+    ensures stamps { OnOk result ((q : List ℕ) → often q tally.new.stamps ≡ often q ((stamp_by tally.old.seed end line.now, 1) ∷ tally.old.stamps)) }
     ensures why { IfErr result (λ why. (why ≡ Refused.Memory) ⊎ Refuses O.unmade O.unreached tally.old.honest why) }
 {
     let ends = [end];
@@ -40,6 +42,8 @@ fn count_end<O: Objects + Drop>(
     ensures honest { tally.new.honest ≡ tally.old.honest }
     ensures counted { tally.old.honest ≡ true → OnOk result (tally.new.lines ≡ counted tally.old.lines (key_of end (midst.old.part.items ++ piece.now))) }
     ensures total { OnOk result (total tally.new.lines ≡ total tally.old.lines + 1) }
+    ensures seed { tally.new.seed ≡ tally.old.seed }
+    ensures stamps { OnOk result ((q : List ℕ) → often q tally.new.stamps ≡ often q ((stamp_by tally.old.seed end (midst.old.part.items ++ piece.now), 1) ∷ tally.old.stamps)) }
     ensures part { OnOk result (midst.new.part.items ≡ []) }
     ensures count { OnOk result (midst.new.count ≡ midst.old.count + 1) }
     ensures out { midst.new.out ≡ midst.old.out }
@@ -82,7 +86,7 @@ fn count_bytes<O: Objects + Drop>(
     ensures honest { tally.new.honest ≡ tally.old.honest }
     ensures plain { OnOk result (IsPlain end midst.new.part.items) }
     ensures out { midst.new.out ≡ midst.old.out }
-    ensures came { OnOk result (Came tally.old.honest end bytes.now midst.old.part.items midst.old.count midst.new.part.items midst.new.count tally.old.lines tally.new.lines) }
+    ensures came { OnOk result (Came tally.old.honest end bytes.now midst.old.part.items midst.old.count midst.new.part.items midst.new.count tally.old tally.new) }
     ensures stopped { IfErr result (λ why. Stopped longest (Refuses O.unmade O.unreached tally.old.honest) false end bytes.now (state_of midst.old.part.items midst.old.count) midst.new.count why [] []) }
 {
     let mut rest = bytes;
@@ -109,7 +113,7 @@ fn count_last<O: Objects + Drop>(
     requires { IsPlain end midst.old.part.items }
     ensures honest { tally.new.honest ≡ tally.old.honest }
     ensures out { midst.new.out ≡ midst.old.out }
-    ensures last { IfOk result (λ n. Last tally.old.honest end midst.old.part.items midst.old.count n tally.old.lines tally.new.lines) }
+    ensures last { IfOk result (λ n. Last tally.old.honest end midst.old.part.items midst.old.count n tally.old tally.new) }
     ensures same { OnErr result (midst.new.count ≡ midst.old.count) }
     ensures halts { IfErr result (λ why. IsWhyHalt longest (Refuses O.unmade O.unreached tally.old.honest) end (state_of midst.old.part.items midst.old.count) why) }
 {
@@ -131,13 +135,12 @@ pub fn count_input<O: Objects + Drop, R: Read>(
     room: &mut [u8],
     midst: &mut Midst,
 ) -> Result<u64, End>
-    requires none { tally.old.lines ≡ [] }
     requires part { midst.old.part.items ≡ [] }
     requires count { midst.old.count ≡ 0 }
     requires room { 0 < length room.old }
     ensures honest { tally.new.honest ≡ tally.old.honest }
     ensures out { midst.new.out ≡ midst.old.out }
-    ensures whole { IfSome (R.remaining input.old) (λ text. IfOk result (λ n. Whole tally.old.honest end n text tally.new.lines)) }
+    ensures whole { IfSome (R.remaining input.old) (λ text. IfOk result (λ n. Whole tally.old.honest end n text tally.old tally.new)) }
     ensures stopped { IfSome (R.remaining input.old) (λ text. IfErr result (λ e. (e.lines ≤ length (lines_of end text)) × IsStop longest (Refuses O.unmade O.unreached tally.old.honest) end e.lines e.why text (R.remaining input.new))) }
 {
     'reads: for turn in 0..u64::MAX {

@@ -2,6 +2,7 @@
 
 ghost use Rattle.std.specs.Prelude.{◌≡◌, [], IfSome};
 ghost use Rattle.far_firsts.specs.Causes.{Refuses};
+ghost use Rattle.far_firsts.specs.Lines.{stamp_by};
 ghost use Rattle.far_firsts.specs.Tallies.{TellsCounts};
 ghost use Rattle.far_firsts.specs.Tallying.{ending_of as ending_for};
 
@@ -21,7 +22,7 @@ use std::io::{Read, Write};
 /// columns or more, a space, the line and its end. Nothing is printed before the end.
 ///
 /// `end`, `longest` and what a line is are those of [`uniq`](crate::uniq); a longer line is refused [`Refused::Length`]. Over a far side
-/// that lies a line may be counted as another one of its hash, and what is printed has that hash.
+/// that lies a line may be counted as another one of its hash and length, and what is printed has those.
 pub fn count_lines<O: Objects + Drop, R: Read, W: Write>(
     alloc: Global,
     tally: &mut Tally<O>,
@@ -30,8 +31,9 @@ pub fn count_lines<O: Objects + Drop, R: Read, W: Write>(
     input: &mut R,
     output: &mut W,
 ) -> Counted
-    requires { tally.old.lines ≡ [] }
-    ensures { IfSome (R.remaining input.old) (λ text. TellsCounts longest (Refuses O.unmade O.unreached tally.old.honest) tally.old.honest end result.lines result.ending text (R.remaining input.new) (W.contents output.old) (W.contents output.new)) }
+    requires none { tally.old.lines ≡ [] }
+    requires stamps { tally.old.stamps ≡ [] }
+    ensures { IfSome (R.remaining input.old) (λ text. TellsCounts longest (Refuses O.unmade O.unreached tally.old.honest) tally.old.honest (stamp_by tally.old.seed end) end result.lines result.ending text (R.remaining input.new) (W.contents output.old) (W.contents output.new)) }
 {
     let Ok(mut midst) = Midst::new(alloc, longest, READ) else {
         return no_room();

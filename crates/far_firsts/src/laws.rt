@@ -1,10 +1,10 @@
 //! What the first lines of each kind are, in other words.
 
-ghost use Rattle.std.specs.Prelude.{◌≡◌, ◌+◌, ◌++◌, ◌∷◌, [], ℕ, List, true, false, length, map, take};
-ghost use Rattle.far_seen.specs.Tallied.{counted, total};
+ghost use Rattle.std.specs.Prelude.{◌≡◌, ◌+◌, ◌<◌, ◌++◌, ◌∷◌, [], ℕ, List, true, false, length, map, take};
+ghost use Rattle.far_seen.specs.Tallied.{Counts, count_of, counted, line_of, often, total};
 ghost use Rattle.far_firsts.specs.Lines.{ArePlain, closed, lines_of, text_of};
 ghost use Rattle.far_firsts.specs.Firsts.{firsts, firsts_by, is_among, unless_among, NoneTwice, IsPartOf};
-ghost use Rattle.far_firsts.specs.Tallies.{how_often, tally};
+ghost use Rattle.far_firsts.specs.Tallies.{AreCounted, how_often, tally};
 
 /// The lines of a text have no end in them; and they and their ends are the text, with an end after the last line if that has none.
 pub fn lines_are_between_ends()
@@ -43,4 +43,13 @@ pub fn counts_are_of_each()
     ensures next { (lines : List (List ℕ)) (line : List ℕ) → tally (lines ++ line ∷ []) ≡ counted (tally lines) line }
     ensures parts { (line : List ℕ) (xs ys : List (List ℕ)) → how_often line (xs ++ ys) ≡ how_often line xs + how_often line ys }
     ensures none { (line : List ℕ) (lines : List (List ℕ)) → is_among line lines ≡ false → how_often line lines ≡ 0 }
+{}
+
+/// What is counted whatever the far side gives: the right counts are so; what is counted has a stamp that came; where no two lines have the
+/// same, each is counted as often as it came; and at worst, where all have the same, the counts sum up.
+pub fn each_stamp_is_counted()
+    ensures right { (stamp : List ℕ → List ℕ) (lines : List (List ℕ)) → AreCounted stamp lines (tally lines) }
+    ensures came { (stamp : List ℕ → List ℕ) (lines : List (List ℕ)) (counts : Counts) (k : ℕ) → AreCounted stamp lines counts → 0 < count_of counts k → is_among (stamp (line_of counts k)) (map stamp lines) ≡ true }
+    ensures apart { (stamp : List ℕ → List ℕ) (lines : List (List ℕ)) (counts : Counts) (line : List ℕ) → ((l m : List ℕ) → stamp l ≡ stamp m → l ≡ m) → AreCounted stamp lines counts → often line counts ≡ how_often line lines }
+    ensures worst { (lines : List (List ℕ)) (counts : Counts) → AreCounted (λ l. []) lines counts → total counts ≡ length lines }
 {}

@@ -17,7 +17,7 @@ pub use counts::count_lines;
 pub use end::{End, Why};
 pub use ending::{Counted, Ending};
 pub use laws::{
-    counts_are_of_each, firsts_are_one_of_each, lines_are_between_ends,
+    counts_are_of_each, each_stamp_is_counted, firsts_are_one_of_each, lines_are_between_ends,
     the_first_of_each_stamp_is_printed, what_is_printed_is_a_prefix,
 };
 pub use run::uniq;

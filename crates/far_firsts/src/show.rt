@@ -68,7 +68,7 @@ fn show<O: Objects + Drop>(
 ) -> Result<(), Refused>
     requires { place < length tally.old.lines }
     ensures same { tally.new ≡ tally.old }
-    ensures shown { OnOk result (Shown tally.old.honest end tally.old.lines place midst.old.out.items midst.new.out.items) }
+    ensures shown { OnOk result (Shown tally.old.honest end tally.old place midst.old.out.items midst.new.out.items) }
     ensures refused { OnErr result (midst.new.out.items ≡ midst.old.out.items) }
     ensures why { IfErr result (λ why. (why ≡ Refused.Memory) ⊎ Refuses O.unmade O.unreached tally.old.honest why) }
 {
@@ -102,7 +102,7 @@ pub fn show_all<O: Objects + Drop, W: Write>(
     output: &mut W,
 ) -> Ending
     requires { midst.old.out.items ≡ [] }
-    ensures { Shows (Refuses O.unmade O.unreached tally.old.honest) tally.old.honest end tally.old.lines result (W.contents output.old) (W.contents output.new) }
+    ensures { Shows (Refuses O.unmade O.unreached tally.old.honest) tally.old.honest end tally.old result (W.contents output.old) (W.contents output.new) }
 {
     for place in 0..tally.len() {
         if let Err(why) = show(tally, place, end, midst) {

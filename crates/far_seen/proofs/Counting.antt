@@ -4,7 +4,7 @@ use Rattle.std.specs.Str.{bytes_eq}
 use Rattle.std.proofs.lemmas.Slice.Eq.{bytes_eq-Decides}
 use Rattle.far_seen.specs.Listed.{Listed, counts_from, line_or_none}
 use Rattle.far_seen.specs.Parts.{Bytes, Has, Plain, Sound}
-use Rattle.far_seen.specs.Tallied.{count_of, counted, line_of, total}
+use Rattle.far_seen.specs.Tallied.{Counts, count_of, counted, line_of, often, times, total}
 use Rattle.far_seen.proofs.Listing.{has_line, one_place}
 
 is_false : (b : Bool) → (b ≡ true → ⊥) → b ≡ false
@@ -111,6 +111,49 @@ total_first b d cs = total_is d 0 (cs ++ 1 ∷ []) ∙ all_more cs ∙ ap (λ n.
 
 pub total_again : (b d : Bytes) (cs : List ℕ) (i : ℕ) → i < length cs → total (counts_from d 0 (slice_set cs i (slice_index cs i + 1))) ≡ total (counts_from b 0 cs) + 1
 total_again b d cs i h = total_is d 0 (slice_set cs i (slice_index cs i + 1)) ∙ all_again cs i h ∙ ap (λ n. n + 1) (sym (total_is b 0 cs))
+
+-- ---- how many came of one stamp
+pub one_more : (b d : Bool) (n x y : ℕ) → y ≡ cond d (1 + x) x → cond b (n + y) y ≡ cond d (1 + cond b (n + x) x) (cond b (n + x) x)
+one_more true true n x y e = omega (arith, e)
+one_more true false n x y e = ap (λ z. n + z) e
+one_more false true n x y e = e
+one_more false false n x y e = e
+
+pub one_here : (b d : Bool) (n x : ℕ) → b ≡ d → cond b (n + 1 + x) x ≡ cond d (1 + cond b (n + x) x) (cond b (n + x) x)
+one_here true true n x e = omega arith
+one_here true false n x e = absurd (cc)
+one_here false true n x e = absurd (cc)
+one_here false false n x e = refl
+
+often_last : (q s : List ℕ) (ps : Counts) → often q (ps ++ (s, 1) ∷ []) ≡ often q ((s, 1) ∷ ps)
+often_last q s [] = refl
+often_last q s (p ∷ ps) = one_more (bytes_eq q p.0) (bytes_eq q s) p.1 (often q ps) (often q (ps ++ (s, 1) ∷ [])) (often_last q s ps)
+
+pub often_first : (b d : Bytes) (q s : List ℕ) (cs : List ℕ) → ((j : ℕ) → j < length cs → d j ≡ b j) → d (length cs) ≡ Some s → often q (counts_from d 0 (cs ++ 1 ∷ [])) ≡ often q ((s, 1) ∷ counts_from b 0 cs)
+often_first b d q s cs same last =
+    let e : 0 + length cs ≡ length cs = omega arith in
+    ap (often q) (counts_last d 0 1 cs ∙ ap (λ k. counts_from d 0 cs ++ (line_or_none (d k), 1) ∷ []) e
+    ∙ (λ i. counts_same b d 0 cs (λ j low up. same j (omega (arith, up))) i ++ (line_or_none (last i), 1) ∷ []))
+    ∙ often_last q s (counts_from b 0 cs)
+
+often_at : (b : Bytes) (q s : List ℕ) (k i : ℕ) (cs : List ℕ) → i < length cs → line_or_none (b (k + i)) ≡ s → often q (counts_from b k (slice_set cs i (slice_index cs i + 1))) ≡ often q ((s, 1) ∷ counts_from b k cs)
+often_at b q s k i [] h there = absurd (omega (arith, h))
+often_at b q s k zero (c ∷ cs) h there =
+    let e : k ≡ k + 0 = omega arith in
+    one_here (bytes_eq q (line_or_none (b k))) (bytes_eq q s) c (often q (counts_from b (suc k) cs)) (ap (bytes_eq q) (ap (λ n. line_or_none (b n)) e ∙ there))
+often_at b q s k (suc i) (c ∷ cs) h there =
+    let e : suc k + i ≡ k + suc i = omega arith in
+    one_more (bytes_eq q (line_or_none (b k))) (bytes_eq q s) c (often q (counts_from b (suc k) cs)) (often q (counts_from b (suc k) (slice_set cs i (slice_index cs i + 1))))
+    (often_at b q s (suc k) i cs (omega (arith, h)) (ap (λ n. line_or_none (b n)) e ∙ there))
+
+pub often_again : (b : Bytes) (q s : List ℕ) (i : ℕ) (cs : List ℕ) → i < length cs → b i ≡ Some s → often q (counts_from b 0 (slice_set cs i (slice_index cs i + 1))) ≡ often q ((s, 1) ∷ counts_from b 0 cs)
+often_again b q s i cs h there =
+    let e : 0 + i ≡ i = omega arith in
+    often_at b q s 0 i cs h (ap (λ n. line_or_none (b n)) e ∙ ap line_or_none there)
+
+pub times_are : (b : Bytes) (k : ℕ) (cs : List ℕ) → times (counts_from b k cs) ≡ cs
+times_are b k [] = refl
+times_are b k (c ∷ cs) = ap (λ ns. c ∷ ns) (times_are b (suc k) cs)
 
 -- ---- lines by slots
 module _ (p : Plain) (numbers counts : List ℕ) (sound : Sound p) (listed : Listed p.slots numbers counts) (line : List ℕ) (some : 0 < length line) where

@@ -4,4 +4,5 @@ pub mod Told
 pub mod Wholes
 pub mod Longs
 pub mod Listing
+pub mod Placing
 pub mod Counting

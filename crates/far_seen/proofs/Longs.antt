@@ -6,7 +6,7 @@ use Rattle.std.proofs.lemmas.Bool.{cases_eq, le-ltb, lt-ltb}
 use Rattle.std.proofs.lemmas.List.{drop-drop, length-drop, length-take, nil_from_length, take-append-drop}
 use Rattle.std.proofs.lemmas.Option.{slice_get_past}
 use Rattle.far_objects.specs.declared.objects.TheConstants.{MOST}
-use Rattle.far_objects.specs.Far.{Drops, Far, Makes}
+use Rattle.far_objects.specs.Far.{Drops, Far, Known, Makes}
 use Rattle.far_word.specs.declared.refused.Refused.{Refused as Refusal}
 use Rattle.far_word.specs.declared.refused.Refused.TheVariants.{NotHeld}
 use Rattle.far_large.specs.Parts.{AsBefore, Holds, IsCount, Parts, Puts, Stands, number_of, part_len, part_of}
@@ -15,6 +15,9 @@ use Rattle.far_seen.specs.Stored.{Keeps, Put, Stored, both, joined, long_bytes, 
 
 none_some : (n : ℕ) (o : Option ℕ) → o ≡ None → o ≡ Some n → ⊥
 none_some n o e f = cc
+
+same_some : (m n : ℕ) → ◌≡◌ {A = Option ℕ} (Some m) (Some n) → m ≡ n
+same_some m n e = cc
 
 -- ---- numbers below LONG, and from there on
 module _ (far : Far) (longs : List Parts) (k : ℕ) where
@@ -75,7 +78,7 @@ get_either (y ∷ ys) x zero l e = inl e
 get_either (y ∷ ys) x (suc i) l e = get_either ys x i l e
 
 pub none_stored : (far : Far) (longs : List Parts) → longs ≡ [] → Stored far longs
-none_stored far longs e = subst (Stored far) (sym e) (record { stands = λ i large f. absurd (none_at i large f); known = λ o i large f. absurd (none_at i large f) })
+none_stored far longs e = subst (Stored far) (sym e) (record { some = λ i large f. absurd (none_at i large f); stands = λ i large f. absurd (none_at i large f); known = λ o i large f. absurd (none_at i large f) })
   where
     none_at : (i : ℕ) (large : Parts) → slice_get {X = Parts} [] i ≡ Some large → ⊥
     none_at i large f = cc
@@ -130,6 +133,7 @@ module _ (old new : Far) (longs : List Parts) (s : Stored old longs) (keeps : Ke
 
   pub stored_kept : Stored new longs
   stored_kept = record {
+    some = s.some;
     stands = λ i large e j l. keeps.sizes (number_of large.numbers j) (part_len large.len j) (s.stands i large e j l);
     known = λ o i large e.
         let was = s.known (sym keeps.honest ∙ o) i large e in (
@@ -198,6 +202,10 @@ module _ (old new : Far) (longs : List Parts) (large : Parts) (xs : List ℕ) (s
 
   pub long_stored : Stored new (longs ++ large ∷ [])
   long_stored = record {
+    some = λ i l e. elim (get_either longs large i l e) [
+      | inl was ↦ s.some i l was
+      | inr same ↦ subst (λ (t : Parts). 0 < t.len) same count.some
+    ];
     stands = λ i l e. elim (get_either longs large i l e) [
       | inl was ↦ kept.stands i l was
       | inr same ↦ subst (Stands new) same large_stands
@@ -223,3 +231,16 @@ module _ (old new : Far) (longs : List Parts) (large : Parts) (xs : List ℕ) (s
 pub undone_so : {A : Type 0} (h : ℕ) (xs : List ℕ) (old now new : Far) (r : Result A Refusal) → Makes h xs old now → OnOk r (Drops h now new) → IfErr r (λ why. (why ≡ NotHeld) × (now.sizes h ≡ None) × (new ≡ now)) → AsBefore old new
 undone_so h xs old now new (Ok x) m d e = undone h xs old now new m d
 undone_so h xs old now new (Err why) m d e = absurd (none_some (length xs) (now.sizes h) e.1 m.size)
+
+-- ---- what stands for a line has a byte
+module _ (far : Far) (longs : List Parts) (known : Known far) (s : Stored far longs) where
+  some_long : (i n : ℕ) (o : Option Parts) → slice_get longs i ≡ o → long_size o ≡ Some n → 0 < n
+  some_long i n None is e = absurd (none_some n None refl e)
+  some_long i n (Some large) is e = subst (λ m. 0 < m) (same_some large.len n e) (s.some i large is)
+
+  some_of : (k n i : ℕ) (b : Bool) → cond b (far.sizes k) (long_size (slice_get longs i)) ≡ Some n → 0 < n
+  some_of k n i true e = (known k n e).some
+  some_of k n i false e = some_long i n (slice_get longs i) refl e
+
+  pub has_byte : (k n : ℕ) → (with_longs far longs).sizes k ≡ Some n → 0 < n
+  has_byte k n e = some_of k n (k - LONG) (nat_lt k LONG) e

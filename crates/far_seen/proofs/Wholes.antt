@@ -7,7 +7,7 @@ use Rattle.std.specs.Bool.{Decides}
 use Rattle.std.specs.Str.{bytes_eq}
 use Rattle.std.proofs.lemmas.Slice.Eq.{bytes_eq-Decides}
 use Rattle.std.proofs.Math.Seq.{take-add}
-use Rattle.std.specs.Prelude.{IfErr}
+use Rattle.std.specs.Prelude.{IfErr, OnErr}
 use Rattle.far_word.specs.declared.refused.Refused.{Refused as Refusal}
 use Rattle.far_word.specs.declared.refused.Refused.TheVariants.{Damaged}
 use Rattle.far_objects.specs.Far.{Far, Known}
@@ -29,6 +29,11 @@ pub ranged : (n : ℕ) (before out now bytes : List ℕ) → length before ≡ n
 ranged n before out now bytes long same read is =
     is ∙ ap (λ ys. take n (out ++ ys)) (drop_all (length out) before (omega (arith, same))) ∙ ap (take n) (append-nil out) ∙ take_all n out (omega (arith, same, long))
     ∙ read ∙ ap (λ k. take k bytes) long
+
+pub long_as : (n : ℕ) (before out now : List ℕ) → length before ≡ n → length out ≡ length before → now ≡ take n (out ++ drop (length out) before) → length now ≡ n
+long_as n before out now long same is =
+    let f : now ≡ out = is ∙ ap (λ ys. take n (out ++ ys)) (drop_all (length out) before (omega (arith, same))) ∙ ap (take n) (append-nil out) ∙ take_all n out (omega (arith, same, long)) in
+    ap (λ (ys : List ℕ). length ys) f ∙ same ∙ long
 
 -- ---- a long line, part by part
 pub more_same : (done count : ℕ) (xs line : List ℕ) → take done xs ≡ take done line → take count (drop done xs) ≡ take count (drop done line) → take (done + count) xs ≡ take (done + count) line
@@ -78,6 +83,10 @@ whole_decides xs read line r same d = if_decides r (read ≡ line) (xs ≡ line)
 pub on_ok : {A E : Type 0} (r : Result A E) (P Q : Type 0) → (P → Q) → OnOk r P → OnOk r Q
 on_ok (Ok x) P Q f p = f p
 on_ok (Err e) P Q f p = p
+
+pub on_err : {A E : Type 0} (r : Result A E) (P Q : Type 0) → (P → Q) → OnErr r P → OnErr r Q
+on_err (Ok x) P Q f p = p
+on_err (Err e) P Q f p = f p
 
 -- what is so, is so if it is the line
 pub so_if : {E : Type 0} (r : Result Bool E) (P : Type 0) → P → IfOk r (λ there. there ≡ true → P)

@@ -1,5 +1,5 @@
 -- What stands for a line: an object, or the parts of a long one.
-use Rattle.std.specs.Prelude.{◌≡◌, ℕ, ◌-◌, nat_lt, true, cond, Option, Some, None, List, [], ◌∷◌, ◌++◌, length}
+use Rattle.std.specs.Prelude.{◌≡◌, ℕ, ◌-◌, ◌<◌, nat_lt, true, cond, Option, Some, None, List, [], ◌∷◌, ◌++◌, length}
 use Rattle.std.specs.List.{slice_get}
 use Rattle.far_objects.specs.Far.{Far}
 use Rattle.far_large.specs.Parts.{Holds, Parts, Stands}
@@ -31,8 +31,9 @@ with_longs far longs = record {
   bytes = λ k. cond (nat_lt k LONG) (far.bytes k) (long_bytes far.bytes (slice_get longs (k - LONG)));
 }
 
--- all parts of long lines are there, and where the far side is honest they have the lines' bytes
+-- long lines have bytes, and all their parts are there, and where the far side is honest they have the lines' bytes
 pub record Stored (far : Far) (longs : List Parts) : Type 0 where
+  pub some : (i : ℕ) (large : Parts) → slice_get longs i ≡ Some large → 0 < large.len
   pub stands : (i : ℕ) (large : Parts) → slice_get longs i ≡ Some large → Stands far large
   pub known : far.honest ≡ true → (i : ℕ) (large : Parts) → slice_get longs i ≡ Some large → (xs : List ℕ) × Holds far large xs × (joined far.bytes large.numbers ≡ Some xs)
 

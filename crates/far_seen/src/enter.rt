@@ -7,7 +7,8 @@ ghost use Rattle.far_index.specs.Slots.{IsTag, Reached, slot_at};
 ghost use Rattle.far_index.specs.Tags.{tag_of};
 ghost use Rattle.far_large.specs.Parts.{AsBefore};
 ghost use Rattle.far_seen.specs.Causes.{IsWhyUnread};
-ghost use Rattle.far_seen.specs.Listed.{Listed, all_of};
+ghost use Rattle.far_seen.specs.Lines.{stamp_of};
+ghost use Rattle.far_seen.specs.Listed.{Listed, all_of, stamp_for};
 ghost use Rattle.far_seen.specs.Parts.{Has, Sound, plain};
 ghost use Rattle.far_seen.specs.Stored.{Stored};
 
@@ -36,6 +37,7 @@ fn is_at<O: Objects + Drop>(
     ensures far { O.far store.new.worker ≡ O.far store.old.worker }
     ensures longs { store.new.longs ≡ store.old.longs }
     ensures holds { (O.far store.old.worker).honest ≡ true → IfOk result (λ there. Decides there ((all_of (O.far store.old.worker) store.old.longs.items numbers.now).bytes place ≡ Some line.now)) }
+    ensures long { IfOk result (λ there. there ≡ true → (all_of (O.far store.old.worker) store.old.longs.items numbers.now).sizes place ≡ Some (length line.now)) }
     ensures why { IfErr result (IsWhyUnread O.unreached (O.far store.old.worker).honest) }
 {
     match numbers.get(place as usize) {
@@ -60,6 +62,7 @@ pub fn find_line<O: Objects + Drop>(
     ensures longs { store.new.longs ≡ store.old.longs }
     ensures there { (O.far store.old.worker).honest ≡ true → IfOk result (λ found. MatchOption found (Has (all_of (O.far store.old.worker) store.old.longs.items numbers.now).bytes near.now.slots line.now → ⊥) (λ place. (all_of (O.far store.old.worker) store.old.longs.items numbers.now).bytes place ≡ Some line.now)) }
     ensures within { IfOk result (λ found. IfSome found (λ place. place < length numbers.now)) }
+    ensures known { IfOk result (λ found. IfSome found (λ place. stamp_for (all_of (O.far store.old.worker) store.old.longs.items numbers.now).sizes near.now.slots place ≡ Some (stamp_of near.now.seed line.now))) }
     ensures why { IfErr result (IsWhyUnread O.unreached (O.far store.old.worker).honest) }
 {
     let home = home_of(near.buckets, tag);
@@ -94,7 +97,7 @@ pub fn count_again(counts: &mut Vec<u64>, place: usize) -> Result<(), Refused>
 
 /// Puts a line that didn't come before.
 pub fn enter<O: Objects + Drop>(roll: &mut Roll<O>, tag: u64, line: &[u8]) -> Result<(), Refused>
-    // the line isn't empty, the tag is its own, the roll is as it should be, and doesn't have it
+    // the line isn't empty, the tag is its own, the roll is as it should be, and doesn't have it if the worker is honest
     requires some { IsTag tag }
     requires tag { tag ≡ tag_of roll.old.near.seed line.now }
     requires more { 0 < length line.now }
@@ -113,6 +116,11 @@ pub fn enter<O: Objects + Drop>(roll: &mut Roll<O>, tag: u64, line: &[u8]) -> Re
     ensures counts { OnOk result (roll.new.counts.items ≡ roll.old.counts.items ++ 1 ∷ []) }
     ensures before { (k : ℕ) → k < length roll.old.numbers.items → (all_of (O.far roll.new.store.worker) roll.new.store.longs.items roll.new.numbers.items).bytes k ≡ (all_of (O.far roll.old.store.worker) roll.old.store.longs.items roll.old.numbers.items).bytes k }
     ensures last { (O.far roll.old.store.worker).honest ≡ true → OnOk result ((all_of (O.far roll.new.store.worker) roll.new.store.longs.items roll.new.numbers.items).bytes (length roll.old.numbers.items) ≡ Some line.now) }
+
+    // of any worker: the seed stays, and so do the stamps of the others; done, the last one has the line's
+    ensures seed { roll.new.near.seed ≡ roll.old.near.seed }
+    ensures stamps { (k : ℕ) → k < length roll.old.numbers.items → stamp_for (all_of (O.far roll.new.store.worker) roll.new.store.longs.items roll.new.numbers.items).sizes roll.new.near.slots k ≡ stamp_for (all_of (O.far roll.old.store.worker) roll.old.store.longs.items roll.old.numbers.items).sizes roll.old.near.slots k }
+    ensures stamp { OnOk result (stamp_for (all_of (O.far roll.new.store.worker) roll.new.store.longs.items roll.new.numbers.items).sizes roll.new.near.slots (length roll.old.numbers.items) ≡ Some (stamp_of roll.old.near.seed line.now)) }
 
     // refused for want of memory, or as no object was made: the counts are as they were, and so are all objects
     ensures err { OnErr result (roll.new.counts.items ≡ roll.old.counts.items) }

@@ -39,6 +39,7 @@ fn read_whole<O: Objects + Drop>(
     requires { (O.far worker.old).sizes number ≡ Some len }
     ensures far { O.far worker.new ≡ O.far worker.old }
     ensures read { (O.far worker.old).honest ≡ true → OnOk result ((O.far worker.old).bytes number ≡ Some out.new.items) }
+    ensures long { OnOk result (length out.new.items ≡ len) }
     ensures why { IfErr result (λ why. (why ≡ Refused.Memory) ⊎ O.unreached (O.far worker.old).honest why) }
 {
     out.clear();
@@ -92,6 +93,7 @@ fn read_at<O: Objects + Drop>(
     requires within { from + count ≤ large.now.len }
     ensures far { O.far worker.new ≡ O.far worker.old }
     ensures read { (xs : List ℕ) → (O.far worker.old).honest ≡ true → Holds (O.far worker.old) large.now xs → OnOk result (out.new.items ≡ take count (drop from xs)) }
+    ensures long { OnOk result (length out.new.items ≡ count) }
     ensures why { IfErr result (λ why. (why ≡ Refused.Memory) ⊎ O.unreached (O.far worker.old).honest why) }
 {
     out.clear();
@@ -203,6 +205,7 @@ fn read_all<O: Objects + Drop>(
     requires stands { Stands (O.far worker.old) large.now }
     ensures far { O.far worker.new ≡ O.far worker.old }
     ensures read { (xs : List ℕ) → (O.far worker.old).honest ≡ true → Holds (O.far worker.old) large.now xs → OnOk result (out.new.items ≡ xs) }
+    ensures long { OnOk result (length out.new.items ≡ large.now.len) }
     ensures why { IfErr result (λ why. (why ≡ Refused.Memory) ⊎ O.unreached (O.far worker.old).honest why) }
 {
     if large.len() == 0 {
@@ -223,6 +226,7 @@ pub fn read_line<O: Objects + Drop>(
     ensures far { O.far store.new.worker ≡ O.far store.old.worker }
     ensures longs { store.new.longs ≡ store.old.longs }
     ensures read { (O.far store.old.worker).honest ≡ true → OnOk result ((with_longs (O.far store.old.worker) store.old.longs.items).bytes number ≡ Some out.new.items) }
+    ensures long { OnOk result ((with_longs (O.far store.old.worker) store.old.longs.items).sizes number ≡ Some (length out.new.items)) }
     ensures why { IfErr result (λ why. (why ≡ Refused.Memory) ⊎ O.unreached (O.far store.old.worker).honest why) }
 {
     if number < LONG {

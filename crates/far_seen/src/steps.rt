@@ -23,15 +23,22 @@ use std::alloc::Global;
 
 /// Whether a line is in the set. A slot with another tag, and an object of another length, cost no read.
 pub fn find<O: Objects + Drop>(parts: &mut Parts<O>, tag: u64, line: &[u8]) -> Result<bool, Refused>
+    // the tag is the line's, and the set is as it should be
     requires some { IsTag tag }
     requires tag { tag ≡ tag_of parts.old.near.seed line.now }
     requires stored { Stored (O.far parts.old.store.worker) parts.old.store.longs.items }
     requires sound { Sound (plain (with_longs (O.far parts.old.store.worker) parts.old.store.longs.items) parts.old.near) }
+
+    // set and worker are as they were
     ensures far { O.far parts.new.store.worker ≡ O.far parts.old.store.worker }
     ensures longs { parts.new.store.longs ≡ parts.old.store.longs }
     ensures near { parts.new.near ≡ parts.old.near }
+
+    // done: whether the line is there, if the worker is honest; of any worker it is only where its hash and length are
     ensures there { (O.far parts.old.store.worker).honest ≡ true → IfOk result (λ there. Decides there (Has (with_longs (O.far parts.old.store.worker) parts.old.store.longs.items).bytes parts.old.near.slots line.now)) }
     ensures known { IfOk result (λ there. there ≡ true → HasStamp (with_longs (O.far parts.old.store.worker) parts.old.store.longs.items).sizes parts.old.near.slots (stamp_of parts.old.near.seed line.now)) }
+
+    // refused only as a line wasn't read
     ensures why { IfErr result (IsWhyUnread O.unreached (O.far parts.old.store.worker).honest) }
 {
     let home = home_of(parts.near.buckets, tag);
@@ -53,7 +60,7 @@ pub fn find<O: Objects + Drop>(parts: &mut Parts<O>, tag: u64, line: &[u8]) -> R
 
 /// Puts a line that isn't in the set.
 pub fn add<O: Objects + Drop>(parts: &mut Parts<O>, tag: u64, line: &[u8]) -> Result<(), Refused>
-    // the line isn't empty, the tag is its own, and the set is as it should be, and doesn't have it
+    // the line isn't empty, the tag is its own, and the set is as it should be, and doesn't have it if the worker is honest
     requires some { IsTag tag }
     requires tag { tag ≡ tag_of parts.old.near.seed line.now }
     requires more { 0 < length line.now }

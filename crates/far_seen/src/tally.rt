@@ -1,9 +1,11 @@
 //! How often each line came.
 
-ghost use Rattle.std.specs.Prelude.{◌≡◌, ◌<◌, ◌+◌, [], true, Err, IfOk, IfErr, OnOk, OnErr, length};
+ghost use Rattle.std.specs.Prelude.{◌≡◌, ◌<◌, ◌+◌, ◌∷◌, [], ℕ, List, true, Err, IfOk, IfErr, OnOk, OnErr, length};
+ghost use Rattle.std.specs.Hash.DefaultHasher as sip;
 ghost use Rattle.far_word.specs.declared.refused.Refused.TheVariants.{Length, Memory};
 ghost use Rattle.far_seen.specs.Causes.{IsWhyPut, IsWhyUnread};
-ghost use Rattle.far_seen.specs.Tallied.{count_of, counted, line_of, total};
+ghost use Rattle.far_seen.specs.Lines.{stamp_of};
+ghost use Rattle.far_seen.specs.Tallied.{count_of, counted, line_of, often, times, total};
 
 use crate::enter::{count_again, enter, find_line, has_slot};
 use crate::near::Near;
@@ -26,7 +28,7 @@ pub struct Tally<O: Objects + Drop> {
 }
 
 impl<O: Objects + Drop> Model for Tally<O> {
-    ghost use Rattle.far_seen.specs.Listed.{Listed, all_of, counts_from};
+    ghost use Rattle.far_seen.specs.Listed.{Listed, all_of, counts_from, stamp_for};
     ghost use Rattle.far_seen.specs.Parts.{Sound, plain};
     ghost use Rattle.far_seen.specs.Stored.{Stored};
     ghost use Rattle.far_seen.specs.Tallied.{Tallied, tallied_code};
@@ -35,7 +37,7 @@ impl<O: Objects + Drop> Model for Tally<O> {
 
     ghost coded = { tallied_code };
 
-    ghost view = { λ s. record { honest = (O.far s.roll.store.worker).honest; lines = counts_from (all_of (O.far s.roll.store.worker) s.roll.store.longs.items s.roll.numbers.items).bytes 0 s.roll.counts.items } };
+    ghost view = { λ s. record { honest = (O.far s.roll.store.worker).honest; lines = counts_from (all_of (O.far s.roll.store.worker) s.roll.store.longs.items s.roll.numbers.items).bytes 0 s.roll.counts.items; seed = s.roll.near.seed; stamps = counts_from (stamp_for (all_of (O.far s.roll.store.worker) s.roll.store.longs.items s.roll.numbers.items).sizes s.roll.near.slots) 0 s.roll.counts.items } };
 
     ghost invariant = { λ s. Stored (O.far s.roll.store.worker) s.roll.store.longs.items × Sound (plain (all_of (O.far s.roll.store.worker) s.roll.store.longs.items s.roll.numbers.items) s.roll.near) × Listed s.roll.near.slots s.roll.numbers.items s.roll.counts.items };
 }
@@ -45,6 +47,8 @@ impl<O: Objects + Drop> Tally<O> {
     pub fn new(alloc: Global, worker: O, seed: [u8; 16]) -> Result<Tally<O>, Refused>
         ensures honest { IfOk result (λ t. t.honest ≡ (O.far worker).honest) }
         ensures empty { IfOk result (λ t. t.lines ≡ []) }
+        ensures seed { IfOk result (λ t. t.seed ≡ sip.write sip.initial seed) }
+        ensures stamps { IfOk result (λ t. t.stamps ≡ []) }
         ensures why { IfErr result (λ why. why ≡ Memory) }
     {
         Tally::roomy(alloc, worker, seed, LINES, usize::MAX)
@@ -60,6 +64,8 @@ impl<O: Objects + Drop> Tally<O> {
     ) -> Result<Tally<O>, Refused>
         ensures honest { IfOk result (λ t. t.honest ≡ (O.far worker).honest) }
         ensures empty { IfOk result (λ t. t.lines ≡ []) }
+        ensures seed { IfOk result (λ t. t.seed ≡ sip.write sip.initial seed) }
+        ensures stamps { IfOk result (λ t. t.stamps ≡ []) }
         ensures why { IfErr result (λ why. why ≡ Memory) }
     {
         Tally::roomy(alloc, worker, seed, lines, lines)
@@ -75,6 +81,8 @@ impl<O: Objects + Drop> Tally<O> {
     ) -> Result<Tally<O>, Refused>
         ensures honest { IfOk result (λ t. t.honest ≡ (O.far worker).honest) }
         ensures empty { IfOk result (λ t. t.lines ≡ []) }
+        ensures seed { IfOk result (λ t. t.seed ≡ sip.write sip.initial seed) }
+        ensures stamps { IfOk result (λ t. t.stamps ≡ []) }
         ensures why { IfErr result (λ why. why ≡ Memory) }
     {
         let buckets = homes(lines);
@@ -116,7 +124,8 @@ impl<O: Objects + Drop> Tally<O> {
 
     /// How many different lines came.
     pub fn len(&self) -> usize
-        ensures { result ≡ length self.now.lines }
+        ensures lines { result ≡ length self.now.lines }
+        ensures even { times self.now.stamps ≡ times self.now.lines }
     {
         self.roll.counts.len()
     }
@@ -128,7 +137,8 @@ impl<O: Objects + Drop> Tally<O> {
         &self.roll.store.worker
     }
 
-    /// Counts a line. One that didn't come before costs no far read, unless another one has its tag of 48 bits and its length.
+    /// Counts a line. One that didn't come before costs no far read, unless another one has its tag of 48 bits and its length. Whatever the
+    /// far side gives, it is one more of those.
     ///
     /// Refused: [`Refused::Length`] exactly where it has no byte; [`Refused::Memory`] where near room can't be had, or there is no more for
     /// long lines, or where it came 2^64 - 1 times; [`Refused::Damaged`] where a line was read that hasn't the tag of what was put, as none
@@ -137,6 +147,8 @@ impl<O: Objects + Drop> Tally<O> {
         ensures honest { self.new.honest ≡ self.old.honest }
         ensures counted { self.old.honest ≡ true → OnOk result (self.new.lines ≡ counted self.old.lines line.now) }
         ensures total { OnOk result (total self.new.lines ≡ total self.old.lines + 1) }
+        ensures seed { self.new.seed ≡ self.old.seed }
+        ensures stamps { OnOk result ((q : List ℕ) → often q self.new.stamps ≡ often q ((stamp_of self.old.seed line.now, 1) ∷ self.old.stamps)) }
         ensures refused { OnErr result (self.new ≡ self.old) }
         ensures none { length line.now ≡ 0 → result ≡ Err Length }
         ensures why { IfErr result (IsWhyPut O.unmade O.unreached self.old.honest (length line.now)) }
@@ -166,6 +178,7 @@ impl<O: Objects + Drop> Tally<O> {
     }
 
     /// Makes `out` the line that came first as the so many-th, from 0, and answers how often it came. After an error `out` may have any bytes.
+    /// Whatever the far side gives, it has the tag and the length of what was put there.
     ///
     /// Refused: [`Refused::Memory`]; [`Refused::Damaged`] where what was read hasn't the tag of what was put, as nothing of an honest far
     /// side; or as the worker reads no object.
@@ -174,6 +187,8 @@ impl<O: Objects + Drop> Tally<O> {
         ensures same { self.new ≡ self.old }
         ensures line { self.old.honest ≡ true → OnOk result (out.new.items ≡ line_of self.old.lines place) }
         ensures count { IfOk result (λ n. n ≡ count_of self.old.lines place) }
+        ensures stamp { OnOk result (stamp_of self.old.seed out.new.items ≡ line_of self.old.stamps place) }
+        ensures some { OnOk result (0 < length out.new.items) }
         ensures why { IfErr result (IsWhyUnread O.unreached self.old.honest) }
     {
         match read_line(&mut self.roll.store, self.roll.numbers[place], out) {

@@ -75,7 +75,7 @@ pub struct PrintedCounts {
 }
 
 /// Counts the lines of the input, and prints each once at its end, after how often it came. Far objects and what is refused are those of
-/// [`print_firsts`].
+/// [`print_firsts`]. Where `honest` isn't true, the counts beside lines of a length and a hash sum up to how many of these came.
 pub fn print_counts<D: Device + Drop, M: MakeDevice<D> + Drop, R: Read, W: Write>(
     alloc: Global,
     devices: M,
@@ -87,7 +87,7 @@ pub fn print_counts<D: Device + Drop, M: MakeDevice<D> + Drop, R: Read, W: Write
     output: &mut W,
 ) -> Result<PrintedCounts, Refused>
     requires { honest ≡ true → M.honest ≡ true }
-    ensures printed { IfOk result (λ p. IfSome (R.remaining input.old) (λ text. TellsCounts room.now.longest (Refuses (OrMemory IsNoPlace) IsOutside honest) honest end p.counted.lines p.counted.ending text (R.remaining input.new) (W.contents output.old) (W.contents output.new))) }
+    ensures printed { IfOk result (λ p. IfSome (R.remaining input.old) (λ text. TellsCounts room.now.longest (Refuses (OrMemory IsNoPlace) IsOutside honest) honest (stamp_by (sip.write sip.initial seed) end) end p.counted.lines p.counted.ending text (R.remaining input.new) (W.contents output.old) (W.contents output.new))) }
     ensures input { OnErr result (R.remaining input.new ≡ R.remaining input.old) }
     ensures output { OnErr result (W.contents output.new ≡ W.contents output.old) }
 {

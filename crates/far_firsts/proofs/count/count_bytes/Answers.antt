@@ -16,14 +16,14 @@ loop-i-preserved g c =
       honest = c.count_end.ensures.honest ∙ c.loop-i.invariant.honest;
       plain = subst (IsPlain c.args.end) (sym c.in-Ok.ensures.part) tt;
       out = c.count_end.ensures.out ∙ c.loop-i.invariant.out;
-      so = subst (λ (r : List ℕ). Eaten c.args.tally.now.honest c.args.end c.args.bytes.now c.args.midst.now.part.items c.args.midst.now.count c.count_end.new.midst.part.items c.count_end.new.midst.count c.args.tally.now.lines c.count_end.new.tally.lines r)
+      so = subst (λ (r : List ℕ). Eaten c.args.tally.now.honest c.args.end c.args.bytes.now c.args.midst.now.part.items c.args.midst.now.count c.count_end.new.midst.part.items c.count_end.new.midst.count c.args.tally.now c.count_end.new.tally r)
           (sym (take_rest rest (c.in-Some.i + 1)))
           (line_eaten c.args.tally.now.honest c.args.end c.args.bytes.now c.args.midst.now.part.items c.args.midst.now.count c.loop-i.midst.part.items c.loop-i.midst.count c.count_end.new.midst.part.items c.count_end.new.midst.count
-          c.args.tally.now.lines c.loop-i.tally.lines c.count_end.new.tally.lines rest piece (drop (c.in-Some.i + 1) rest) c.loop-i.invariant.so
+          c.args.tally.now c.loop-i.tally c.count_end.new.tally rest piece (drop (c.in-Some.i + 1) rest) c.loop-i.invariant.so
           (cut_at c.args.end c.in-Some.i rest c.in-Some.ensures.0.high c.in-Some.ensures.1)
-          (came_line c.args.tally.now.honest c.args.end c.loop-i.midst.part.items piece c.count_end.new.midst.part.items c.loop-i.midst.count c.count_end.new.midst.count c.loop-i.tally.lines c.count_end.new.tally.lines
-          c.loop-i.invariant.plain (plain_to c.args.end rest c.in-Some.i (omega (arith, c.in-Some.ensures.0.high)) c.in-Some.ensures.0.before) c.in-Ok.ensures.count c.in-Ok.ensures.part c.in-Ok.ensures.total
-          (λ h. c.in-Ok.ensures.counted (c.loop-i.invariant.honest ∙ h))));
+          (came_line c.args.tally.now.honest c.args.end c.loop-i.midst.part.items piece c.count_end.new.midst.part.items c.loop-i.midst.count c.count_end.new.midst.count c.loop-i.tally c.count_end.new.tally
+          c.loop-i.invariant.plain (plain_to c.args.end rest c.in-Some.i (omega (arith, c.in-Some.ensures.0.high)) c.in-Some.ensures.0.before) c.in-Ok.ensures.count c.in-Ok.ensures.part
+          (c.in-Ok.ensures.total, c.count_end.ensures.seed, c.in-Ok.ensures.stamps, λ h. c.in-Ok.ensures.counted (c.loop-i.invariant.honest ∙ h))));
     }
 
 pub returns-in-Err-clause-stopped : goal.returns-in-Err-clause-stopped
@@ -32,7 +32,7 @@ returns-in-Err-clause-stopped g c =
     let piece = take c.in-Some.i rest in
     let refuses = Refuses g.O.Objects.unmade g.O.Objects.unreached in
     eaten_stops c.args.longest (refuses c.args.tally.now.honest) c.args.tally.now.honest c.args.end c.args.bytes.now c.args.midst.now.part.items c.args.midst.now.count c.loop-i.midst.part.items c.loop-i.midst.count
-    c.count_end.new.midst.count c.args.tally.now.lines c.loop-i.tally.lines rest c.in-Err.why c.loop-i.invariant.so c.in-Err.ensures.same
+    c.count_end.new.midst.count c.args.tally.now c.loop-i.tally rest c.in-Err.why c.loop-i.invariant.so c.in-Err.ensures.same
     (end_halts c.args.longest (refuses c.args.tally.now.honest) c.args.end no_set c.loop-i.midst.part.items piece c.loop-i.midst.count c.loop-i.invariant.plain
     (plain_to c.args.end rest c.in-Some.i (omega (arith, c.in-Some.ensures.0.high)) c.in-Some.ensures.0.before)
     rest (drop (c.in-Some.i + 1) rest) c.in-Err.why (cut_at c.args.end c.in-Some.i rest c.in-Some.ensures.0.high c.in-Some.ensures.1)
@@ -46,6 +46,6 @@ pub returns-in-Err-keep-clause-stopped : goal.returns-in-Err-keep-clause-stopped
 returns-in-Err-keep-clause-stopped g c =
     let refuses = Refuses g.O.Objects.unmade g.O.Objects.unreached c.args.tally.now.honest in
     eaten_stops c.args.longest refuses c.args.tally.now.honest c.args.end c.args.bytes.now c.args.midst.now.part.items c.args.midst.now.count c.loop-i.midst.part.items c.loop-i.midst.count
-    c.loop-i.midst.count c.args.tally.now.lines c.loop-i.tally.lines c.loop-i.rest.now _ c.loop-i.invariant.so refl
+    c.loop-i.midst.count c.args.tally.now c.loop-i.tally c.loop-i.rest.now _ c.loop-i.invariant.so refl
     (keep_halts c.args.longest refuses c.args.end no_set c.loop-i.midst.part.items c.loop-i.rest.now c.loop-i.midst.count c.loop-i.invariant.plain
     (all_plain c.args.end c.loop-i.rest.now c.in_default.ensures) c.in-Err-keep.why c.in-Err-keep.ensures.why)

@@ -9,5 +9,5 @@ invariant-reads g l = record {
   plain : IsPlain l.end l.midst.part.items;
   out : l.midst.out ≡ l.fn.midst.out;
   room : 0 < length l.room;
-  gone : IfSome (g.R.Read.remaining l.fn.input) (λ text. Gone l.fn.tally.honest l.end l.turn text l.midst.part.items l.midst.count l.tally.lines (g.R.Read.remaining l.input));
+  gone : IfSome (g.R.Read.remaining l.fn.input) (λ text. Gone l.fn.tally.honest l.end l.turn text l.midst.part.items l.midst.count l.fn.tally l.tally (g.R.Read.remaining l.input));
 }

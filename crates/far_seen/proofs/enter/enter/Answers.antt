@@ -1,14 +1,15 @@
-use Rattle.std.proofs.Common.{◌≡◌, ◌+◌, ◌++◌, ◌∷◌, [], length, slice_get, refl, sym, ◌∙◌, ap, subst, get_or-set_same, get_or-set_other, length-set, arith}
+use Rattle.std.proofs.Common.{◌≡◌, ℕ, ◌<◌, ◌+◌, ◌++◌, ◌∷◌, [], length, Some, refl, sym, ◌∙◌, ap, subst, get_or-set_same, get_or-set_other, length-set, arith}
 use Rattle.far_objects.specs.Far.{Far}
 use Rattle.far_index.specs.declared.slot.Slot.TheVariants.{Empty, Full}
 use Rattle.far_index.specs.Slots.{slot_at}
 use Rattle.far_index.specs.Grown.{Placed}
-use Rattle.far_seen.specs.Listed.{Listed, all_of, of_number}
-use Rattle.far_seen.specs.Parts.{Sound, plain}
+use Rattle.far_seen.specs.Listed.{Listed, all_of, by_place, stamp_for}
+use Rattle.far_seen.specs.Parts.{Plain, Sound, plain}
 use Rattle.far_seen.specs.Stored.{Keeps, Put, with_longs}
 use Rattle.far_seen.proofs.Listing.{has_size, listed_kept, listed_more, places_same, put_last}
 use Rattle.far_seen.proofs.Longs.{all_before, as_was, keeps_before}
 use Rattle.far_seen.proofs.Outcomes.{Same, added_sound, same_sound}
+use Rattle.far_seen.proofs.Placing.{place_is, stamps_kept}
 use Rattle.far_seen.proofs.enter.enter.Given.{Over}
 use Rattle.far_seen.proofs.enter.enter.Goals.{After-find_place, After-push_reserved}
 use Rattle.far_seen.proofs.enter.enter.Goals as goal
@@ -18,9 +19,10 @@ abbrev was : (g : Over) (c : After-find_place g) → Far
 was g c = with_longs (g.O.Objects.far c.args.roll.now.store.worker) c.args.roll.now.store.longs.items
 
 -- the index has perhaps a slot more
-same : (g : Over) (c : After-find_place g) (far : Far) → Keeps (was g c) far →
-    Same (plain (all_of (g.O.Objects.far c.args.roll.now.store.worker) c.args.roll.now.store.longs.items c.args.roll.now.numbers.items) c.args.roll.now.near)
-    record { far = record { honest = far.honest; sizes = λ k. of_number far.sizes (slice_get c.reserve.new.self.items k); bytes = λ k. of_number far.bytes (slice_get c.reserve.new.self.items k) }; seed = c.args.roll.now.near.seed; slots = c.find_place.new.slots; buckets = c.args.roll.now.near.buckets; count = c.args.roll.now.near.count }
+abbrev grown : (g : Over) (c : After-find_place g) → Far → Plain
+grown g c far = record { far = by_place far c.reserve.new.self.items; seed = c.args.roll.now.near.seed; slots = c.find_place.new.slots; buckets = c.args.roll.now.near.buckets; count = c.args.roll.now.near.count }
+
+same : (g : Over) (c : After-find_place g) (far : Far) → Keeps (was g c) far → Same (plain (all_of (g.O.Objects.far c.args.roll.now.store.worker) c.args.roll.now.store.longs.items c.args.roll.now.numbers.items) c.args.roll.now.near) (grown g c far)
 same g c far keeps = record {
   far = places_same (was g c) far c.args.roll.now.numbers.items c.reserve.new.self.items keeps c.reserve.ensures.items;
   seed = refl;
@@ -29,6 +31,13 @@ same g c far keeps = record {
   buckets = refl;
   count = refl;
 }
+
+still_stamped : (g : Over) (c : After-find_place g) (far : Far) → Keeps (was g c) far → (k : ℕ) → k < length c.args.roll.now.numbers.items →
+    stamp_for (grown g c far).far.sizes c.find_place.new.slots k ≡ stamp_for (all_of (g.O.Objects.far c.args.roll.now.store.worker) c.args.roll.now.store.longs.items c.args.roll.now.numbers.items).sizes c.args.roll.now.near.slots k
+still_stamped g c far keeps k h =
+    let p = plain (all_of (g.O.Objects.far c.args.roll.now.store.worker) c.args.roll.now.store.longs.items c.args.roll.now.numbers.items) c.args.roll.now.near in
+    let s = same g c far keeps in
+    stamps_kept p (grown g c far) c.args.roll.now.numbers.items c.args.roll.now.counts.items c.requires.sound (same_sound p (grown g c far) c.requires.sound s) c.requires.listed s.far.sizes (λ j t k e. (j, s.slots j ∙ e)) k h
 
 still_listed : (g : Over) (c : After-find_place g) → Listed c.find_place.new.slots c.reserve.new.self.items c.reserve-2.new.self.items
 still_listed g c =
@@ -45,6 +54,11 @@ returns-in_default-find_place-clause-sound g c =
 
 pub returns-in_default-find_place-clause-listed : goal.returns-in_default-find_place-clause-listed
 returns-in_default-find_place-clause-listed g c = still_listed g (goal.at.returns-in_default-find_place-clause-listed g c).After-find_place
+
+pub returns-in_default-find_place-clause-stamps : goal.returns-in_default-find_place-clause-stamps
+returns-in_default-find_place-clause-stamps g c = λ k h.
+    let a = (goal.at.returns-in_default-find_place-clause-stamps g c).After-find_place in
+    still_stamped g a (was g a) (keeps_before (was g a) (was g a) (as_was (was g a) (was g a) refl)) k h
 
 pub returns-in-Err-clause-sound : goal.returns-in-Err-clause-sound
 returns-in-Err-clause-sound g c =
@@ -65,6 +79,12 @@ returns-in-Err-clause-before g c = λ k h.
     (same g a (with_longs (g.O.Objects.far c.put_line.new.store.worker) c.put_line.new.store.longs.items)
     (all_before (g.O.Objects.far c.args.roll.now.store.worker) (g.O.Objects.far c.put_line.new.store.worker) c.args.roll.now.store.longs.items c.put_line.new.store.longs.items
     c.requires.stored c.in-Err.ensures.refused c.in-Err.ensures.longs)).far.bytes k size.0 size.1
+
+pub returns-in-Err-clause-stamps : goal.returns-in-Err-clause-stamps
+returns-in-Err-clause-stamps g c = λ k h.
+    still_stamped g (goal.at.returns-in-Err-clause-stamps g c).After-find_place (with_longs (g.O.Objects.far c.put_line.new.store.worker) c.put_line.new.store.longs.items)
+    (all_before (g.O.Objects.far c.args.roll.now.store.worker) (g.O.Objects.far c.put_line.new.store.worker) c.args.roll.now.store.longs.items c.put_line.new.store.longs.items
+    c.requires.stored c.in-Err.ensures.refused c.in-Err.ensures.longs) k h
 
 -- ---- the line is put
 numbers_are : (g : Over) (c : After-push_reserved g) → c.push_reserved.new.self.items ≡ c.args.roll.now.numbers.items ++ c.in-Ok-put_line.number ∷ []
@@ -92,13 +112,24 @@ placed g c =
       full = c.in-Ok-find_place.ensures.full;
     }
 
+-- all slots and objects now
+abbrev now : (g : Over) (c : After-push_reserved g) → Plain
+now g c =
+    let near = c.args.roll.now.near in
+    record { far = (all_of (g.O.Objects.far c.put_line.new.store.worker) c.put_line.new.store.longs.items (c.args.roll.now.numbers.items ++ c.in-Ok-put_line.number ∷ [])); seed = near.seed; slots = c.set.new.self; buckets = near.buckets; count = near.count + 1 }
+
+now_sound : (g : Over) (c : After-push_reserved g) → Sound (now g c)
+now_sound g c =
+    added_sound (plain (all_of (g.O.Objects.far c.args.roll.now.store.worker) c.args.roll.now.store.longs.items c.args.roll.now.numbers.items) c.args.roll.now.near)
+    (all_of (g.O.Objects.far c.put_line.new.store.worker) c.put_line.new.store.longs.items (c.args.roll.now.numbers.items ++ c.in-Ok-put_line.number ∷ [])) c.set.new.self c.args.tag (length c.args.roll.now.numbers.items) c.args.line.now
+    c.requires.sound (placed g c) (put g c) c.requires.tag c.requires.absent
+
 pub returns-clause-sound : goal.returns-clause-sound
 returns-clause-sound g c =
     let a = (goal.at.returns-clause-sound g c).After-push_reserved in
-    let p = plain (all_of (g.O.Objects.far c.args.roll.now.store.worker) c.args.roll.now.store.longs.items c.args.roll.now.numbers.items) c.args.roll.now.near in
-    subst (λ ns. Sound record { far = all_of (g.O.Objects.far c.put_line.new.store.worker) c.put_line.new.store.longs.items ns; seed = p.seed; slots = c.set.new.self; buckets = p.buckets; count = p.count + 1 }) (sym (numbers_are g a))
-    (added_sound p (all_of (g.O.Objects.far c.put_line.new.store.worker) c.put_line.new.store.longs.items (c.args.roll.now.numbers.items ++ c.in-Ok-put_line.number ∷ [])) c.set.new.self c.args.tag (length c.args.roll.now.numbers.items) c.args.line.now
-    c.requires.sound (placed g a) (put g a) c.requires.tag c.requires.absent)
+    let near = c.args.roll.now.near in
+    subst (λ ns. Sound record { far = all_of (g.O.Objects.far c.put_line.new.store.worker) c.put_line.new.store.longs.items ns; seed = near.seed; slots = c.set.new.self; buckets = near.buckets; count = near.count + 1 }) (sym (numbers_are g a))
+    (now_sound g a)
 
 pub returns-clause-listed : goal.returns-clause-listed
 returns-clause-listed g c =
@@ -118,3 +149,19 @@ pub returns-clause-last : goal.returns-clause-last
 returns-clause-last g c = λ o.
     let a = (goal.at.returns-clause-last g c).After-push_reserved in
     ap (λ ns. (all_of (g.O.Objects.far c.put_line.new.store.worker) c.put_line.new.store.longs.items ns).bytes (length c.args.roll.now.numbers.items)) (numbers_are g a) ∙ (put g a).bytes o
+
+pub returns-clause-stamps : goal.returns-clause-stamps
+returns-clause-stamps g c = λ k h.
+    let a = (goal.at.returns-clause-stamps g c).After-push_reserved in
+    let p = plain (all_of (g.O.Objects.far c.args.roll.now.store.worker) c.args.roll.now.store.longs.items c.args.roll.now.numbers.items) c.args.roll.now.near in
+    ap (λ ns. stamp_for (all_of (g.O.Objects.far c.put_line.new.store.worker) c.put_line.new.store.longs.items ns).sizes c.set.new.self k) (numbers_are g a)
+    ∙ stamps_kept p (now g a) c.args.roll.now.numbers.items c.args.roll.now.counts.items c.requires.sound (now_sound g a) c.requires.listed (put g a).keeps.sizes
+    (λ j t n e. (j, (placed g a).others j (λ same. (placed g a).free t n (sym (ap (slot_at p.slots) same) ∙ e)) ∙ e)) k h
+
+pub returns-clause-stamp : goal.returns-clause-stamp
+returns-clause-stamp g c =
+    let a = (goal.at.returns-clause-stamp g c).After-push_reserved in
+    let last = length c.args.roll.now.numbers.items in
+    ap (λ ns. stamp_for (all_of (g.O.Objects.far c.put_line.new.store.worker) c.put_line.new.store.longs.items ns).sizes c.set.new.self last) (numbers_are g a)
+    ∙ place_is (now g a) (now_sound g a) (placed g a).place c.args.tag last (length c.args.line.now) (placed g a).slot (put g a).size
+    ∙ ap (λ t. Some (t ∷ length c.args.line.now ∷ [])) c.requires.tag

@@ -1,4 +1,4 @@
-use Rattle.std.proofs.Common.{◌≡◌, ◌≢◌, ℕ, ◌≤◌, List, Option, Some, refl, ◌∙◌, ap, subst, below_more}
+use Rattle.std.proofs.Common.{◌≡◌, ◌≢◌, ℕ, ◌≤◌, List, [], ◌∷◌, length, Option, Some, refl, sym, ◌∙◌, ap, subst, below_more}
 use Rattle.std.specs.Bool.{Decides}
 use Rattle.far_objects.specs.Far.{Far}
 use Rattle.far_index.specs.declared.slot.Slot.TheVariants.{Empty}
@@ -7,6 +7,7 @@ use Rattle.far_seen.specs.Listed.{all_of}
 use Rattle.far_seen.specs.Parts.{line_at, plain}
 use Rattle.far_seen.specs.Stored.{with_longs}
 use Rattle.far_seen.proofs.Listing.{place_within}
+use Rattle.far_seen.proofs.Placing.{place_is}
 use Rattle.far_seen.proofs.Told.{other_here, tag_here}
 use Rattle.far_seen.proofs.enter.find_line.Goals.{in-Other, in-Tag+in-Ok-false}
 use Rattle.far_seen.proofs.enter.find_line.Goals as goal
@@ -21,6 +22,15 @@ pub returns-in-Ok-true-clause-within : goal.returns-in-Ok-true-clause-within
 returns-in-Ok-true-clause-within g c =
     let held = c.requires.sound.held c.loop-at.at c.args.tag c.in-Tag.place (c.in-Tag.ensures.tag c.in-Tag.place refl) in
     place_within (with_longs (g.O.Objects.far c.args.store.now.worker) c.args.store.now.longs.items).sizes c.args.numbers.now c.in-Tag.place held.0 held.1
+
+pub returns-in-Ok-true-clause-known : goal.returns-in-Ok-true-clause-known
+returns-in-Ok-true-clause-known g c =
+    let was = c.loop-at.invariant in
+    let place = c.in-Tag.place in
+    let f = all_of (g.O.Objects.far c.args.store.now.worker) c.args.store.now.longs.items c.args.numbers.now in
+    let size : f.sizes place ≡ Some (length c.args.line.now) = (λ i. (all_of (sym was.far i) (sym was.longs i).items c.args.numbers.now).sizes place) ∙ c.in-Ok-true.ensures.long c.in-Ok-true.field-0-test in
+    place_is (plain f c.args.near.now) c.requires.sound c.loop-at.at c.args.tag place (length c.args.line.now) (c.in-Tag.ensures.tag place refl) size
+    ∙ ap (λ t. Some (t ∷ length c.args.line.now ∷ [])) c.requires.tag
 
 pub loop-at-preserved : goal.loop-at-preserved
 loop-at-preserved g c =
