@@ -10,8 +10,8 @@
  * Each function but far_status_text, far_open_file, far_open_folder, far_trim and the same of a map, which are in c_api/support.c, is proved. What C owes: a
  * `struct far_worker` or `struct far_map` is all zero, or as the last call left it; none
  * that is open is copied; one call at a time has it; no two arguments of a call overlap, unless it writes to neither; no pointer is NULL, also where its length is 0. Then no call aborts,
- * whatever the numbers are: a handle that is stale, made up, or another worker's, a length that doesn't fit, a second close, a call of a worker or a map
- * that isn't open are answered by a status.
+ * whatever the numbers are: a handle that has no object, a length that doesn't fit, a second close, a call of a worker or a map that isn't open are answered
+ * by a status. A handle of another worker, or one made up, may be one of this worker's too.
  *
  * Threads: a worker and a map stay on the thread that opened them. Several threads have some each. No call waits, takes a lock, or starts a thread. No
  * call may come from a signal handler.
@@ -201,9 +201,9 @@ int32_t far_map_close(struct far_map *map);
  * FAR_EPOCHS_SPENT, FAR_MEMORY; FAR_DEVICE. No other. */
 int32_t far_map_put(struct far_map *map, const uint8_t *key, size_t key_len, const uint8_t *value, size_t value_len);
 
-/* Reads a key's value to out, and how many bytes it has to len.
+/* Reads a key's value to out, and how many bytes it has to len. What lies behind it in out stays.
  *
- * FAR_CLOSED; FAR_NO_KEY, exactly where there is none, if no other comes; FAR_SHORT, exactly where out has too little room: nothing is written there, and len
+ * FAR_CLOSED; if no other comes FAR_NO_KEY, exactly where there is none, and FAR_SHORT, exactly where out has too little room: nothing is written there, and len
  * says how much would do; FAR_MEMORY: there is none to read a long value to; FAR_NO_ROOM, FAR_EPOCHS_SPENT, FAR_DEVICE. No other. */
 int32_t far_map_get(struct far_map *map, const uint8_t *key, size_t key_len, uint8_t *out, size_t room, size_t *len);
 
@@ -224,9 +224,9 @@ int32_t far_map_clear(struct far_map *map);
 int32_t far_map_begin(struct far_map *map);
 
 /* Tells an entry that wasn't told since far_map_begin: its key, its value, and how many bytes each has. Each is told once, in no order that is told; other calls
- * than those that end it may come between.
+ * than those that end it may come between. What lies behind them in key and value stays.
  *
- * FAR_CLOSED; FAR_END: each was told, or none was to be; FAR_SHORT: key or value has too little room: the lengths are set, and a buffer that has room; the next call tells
+ * FAR_CLOSED; FAR_END: each was told, or none was to be; FAR_SHORT: key or value has too little room: the lengths are set, the buffers may be; the next call tells
  * the same entry; FAR_MEMORY, FAR_NO_ROOM, FAR_EPOCHS_SPENT, FAR_DEVICE: the next call tells it. No other. */
 int32_t far_map_next(struct far_map *map, uint8_t *key, size_t key_room, size_t *key_len, uint8_t *value, size_t value_room, size_t *value_len);
 

@@ -1,3 +1,3 @@
-mod Given
+pub mod Given
 mod Numbers
 mod Opening

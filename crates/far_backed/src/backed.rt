@@ -1,6 +1,6 @@
 //! The worker.
 
-ghost use Rattle.std.specs.Prelude.{◌≡◌, ◌<◌, ◌+◌, ℕ, true, false, Option, None, Some, Err, length, slice_range, IfOk, IfErr, IfSome, OnErr, OnOk, is_some, ◌≤◌};
+ghost use Rattle.std.specs.Prelude.{◌≡◌, ◌≢◌, ◌<◌, ◌+◌, ℕ, true, false, Option, None, Some, Err, length, slice_range, IfOk, IfErr, IfSome, OnErr, OnOk, is_some, ◌≤◌};
 ghost use Rattle.far_word.specs.declared.refused.Refused.{Refused as Refusal};
 ghost use Rattle.far_word.specs.declared.refused.Refused.TheVariants.{Length, NoRoom, NotHeld};
 ghost use Rattle.far_private.specs.Heap.{IsWhyNoAccess, is_length, new_object, object_with, size_of};
@@ -37,7 +37,8 @@ impl Model for Backed {
 
 // What bars an access of an object that is so long, if there is one.
 fn bar(len: Option<u16>, from: usize, count: usize) -> Option<Refused>
-    ensures { (o : Option Object) → size_of o ≡ len → result ≡ refusal_of o from count }
+    ensures bars { (o : Option Object) → size_of o ≡ len → result ≡ refusal_of o from count }
+    ensures roomy { result ≢ Some NoRoom }
 {
     let Some(len) = len else {
         return Some(Refused::NotHeld);
@@ -185,6 +186,7 @@ impl Backed {
         ensures kept { OnErr result (bytes.new ≡ bytes.old) }
         ensures barred { (why : Refusal) → refusal_of (object_of self.old number) from (length bytes.old) ≡ Some why → result ≡ Err why }
         ensures why { IfErr result (λ why. IsWhyNoAccess self.old.honest (refusal_of (object_of self.old number) from (length bytes.old)) why) }
+        ensures room { result ≡ Err NoRoom → 3 ≤ self.old.logs → IsNotTakenBy ⟦<Side as Device>⟧.writes self.old (handle_of number).heap }
     {
         if let Some(why) = bar(self.len_of(number), from, bytes.len()) {
             return Err(why);

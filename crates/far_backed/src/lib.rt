@@ -8,3 +8,4 @@ mod sides;
 
 pub use backed::Backed;
 pub use map::BackedMap;
+pub use sides::Side;

@@ -1,6 +1,6 @@
 //! The map.
 
-ghost use Rattle.std.specs.Prelude.{◌≡◌, ◌≤◌, ◌<◌, ◌-◌, ◌^◌, [], true, false, not, min, None, Some, Ok, Err, length, take, IfOk, IfErr, IfSome, MatchOption, OnErr, OnOk, IsSome};
+ghost use Rattle.std.specs.Prelude.{◌≡◌, ◌≤◌, ◌<◌, ◌-◌, ◌^◌, [], true, false, not, min, None, Some, Ok, Err, length, take, drop, IfOk, IfErr, IfSome, MatchOption, OnErr, OnOk, IsSome};
 ghost use Rattle.std.specs.FinMap as map;
 ghost use Rattle.far_word.specs.declared.refused.Refused.TheVariants.{Length, Memory};
 ghost use Rattle.far_private.specs.Heap.{IsOutside};
@@ -110,13 +110,15 @@ impl BackedMap {
         self.tour.insert(key, value)
     }
 
-    /// How many bytes a key's value has, if it has one; `out` begins with them, where it has room for all. Refused as [`Dict::get`] is.
+    /// How many bytes a key's value has, if it has one; `out` begins with them, where it has room for all, and is as it was behind them. Refused as [`Dict::get`] is.
     pub fn get(&mut self, key: &[u8], out: &mut [u8]) -> Result<Option<usize>, Refused>
         ensures same { self.new ≡ self.old }
         ensures long { length out.new ≡ length out.old }
         ensures got { IfOk result (λ r. MatchOption (map.get self.old.entries key.now) (r ≡ None) (λ value. r ≡ Some (length value))) }
         ensures told { OnOk result (IfSome (map.get self.old.entries key.now) (λ value. length value ≤ length out.old → take (length value) out.new ≡ value)) }
         ensures left { OnOk result (IfSome (map.get self.old.entries key.now) (λ value. length out.old < length value → out.new ≡ out.old)) }
+        ensures behind { IfOk result (λ r. MatchOption r (out.new ≡ out.old) (λ n. drop n out.new ≡ drop n out.old)) }
+        ensures kept { OnErr result (out.new ≡ out.old) }
         ensures why { IfErr result (IsOutside true) }
     {
         self.tour.get_to(key, out)
@@ -170,7 +172,7 @@ impl BackedMap {
     }
 
     /// Tells an entry that wasn't told yet: how many bytes its key and its value have, if there was one. It counts as told where there is room for both, and `key`
-    /// and `value` begin with them then. Refused as the workers' reads are, and [`Refused::Memory`]; then nothing was told.
+    /// and `value` begin with them then; behind them they are as they were. Refused as the workers' reads are, and [`Refused::Memory`]; then nothing was told.
     pub fn next(
         &mut self,
         key: &mut [u8],
@@ -180,6 +182,8 @@ impl BackedMap {
         ensures told { IfOk result (λ r. Tells self.old.rest r key.new value.new self.new.rest) }
         ensures long_key { length key.new ≡ length key.old }
         ensures long_value { length value.new ≡ length value.old }
+        ensures behind { IfOk result (λ r. MatchOption r ((key.new ≡ key.old) × (value.new ≡ value.old)) (λ n. (drop n.0 key.new ≡ drop n.0 key.old) × (drop n.1 value.new ≡ drop n.1 value.old))) }
+        ensures kept { OnErr result ((key.new ≡ key.old) × (value.new ≡ value.old)) }
         ensures refused { OnErr result (self.new ≡ self.old) }
         ensures why { IfErr result (IsOutside true) }
     {

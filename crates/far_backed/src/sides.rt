@@ -10,7 +10,7 @@ use far_word::Refused;
 use std::alloc::Global;
 
 /// The device of a heap: memory that is taken as objects go far, or bytes that were reserved.
-pub(crate) type Side = EitherDevice<MemDevice, FileDevice<Reserved>>;
+pub type Side = EitherDevice<MemDevice, FileDevice<Reserved>>;
 
 /// Makes the devices of a worker, all of one kind. They are honest.
 #[derive(Drop)]

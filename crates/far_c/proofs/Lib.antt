@@ -1,4 +1,5 @@
 mod AsBox
 mod AsBoxMap
+mod Given
 mod Statuses
 mod Telling

@@ -1,5 +1,5 @@
 -- No refusal has the number of what was done, or of what no refusal says.
-use Rattle.std.proofs.Common.{◌≡◌, ◌≢◌, ◌<◌, ◌≤◌, ℕ, ℤ, pos, negsuc, sym, ap, ◌∙◌, arith}
+use Rattle.std.proofs.Common.{◌≡◌, ◌≢◌, ◌<◌, ◌≤◌, ℕ, ℤ, pos, negsuc, refl, sym, ap, ◌∙◌, arith}
 use Rattle.far_word.specs.declared.refused.Refused.{Refused}
 use Rattle.far_word.specs.declared.refused.Refused.TheVariants.{Memory, NoRoom, NoPointer, Length, Closed, AlreadyOpen, NotHeld, Range, Held, Device, Damaged, Phase, EpochsSpent, Marked, Shape, Syntax, BadChoice, StillOpen}
 use Rattle.far_word.specs.Refused.{refusal_number}
@@ -54,3 +54,27 @@ below (StillOpen mutator epoch) = omega arith
 -- the statuses from 20 on are no refusal's
 pub is_below : (why : Refused) (n : ℕ) (status : ℤ) → status ≡ pos (refusal_number why) → 20 ≤ n → status ≢ pos n
 is_below why n status told high same = let e : refusal_number why ≡ n = ap nat_of (sym told ∙ same) in omega (arith, below why, e, high)
+
+only : (why : Refused) → refusal_number why ≡ 2 → why ≡ NoRoom
+only Memory two = absurd (omega (arith, two))
+only NoRoom two = refl
+only NoPointer two = absurd (omega (arith, two))
+only Length two = absurd (omega (arith, two))
+only Closed two = absurd (omega (arith, two))
+only AlreadyOpen two = absurd (omega (arith, two))
+only NotHeld two = absurd (omega (arith, two))
+only Range two = absurd (omega (arith, two))
+only Held two = absurd (omega (arith, two))
+only Device two = absurd (omega (arith, two))
+only Damaged two = absurd (omega (arith, two))
+only Phase two = absurd (omega (arith, two))
+only EpochsSpent two = absurd (omega (arith, two))
+only (Marked word) two = absurd (omega (arith, two))
+only Shape two = absurd (omega (arith, two))
+only (Syntax line) two = absurd (omega (arith, two))
+only (BadChoice log) two = absurd (omega (arith, two))
+only (StillOpen mutator epoch) two = absurd (omega (arith, two))
+
+-- that nothing near can leave is told by its number alone
+pub is_no_room : (why : Refused) (status : ℤ) → status ≡ pos (refusal_number why) → status ≡ pos 2 → why ≡ NoRoom
+is_no_room why status told two = only why (ap nat_of (sym told ∙ two))

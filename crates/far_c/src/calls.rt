@@ -1,18 +1,21 @@
 //! Calls of a worker that is open.
 
-ghost use Rattle.std.specs.Prelude.{◌≡◌, ◌≢◌, ◌+◌, false, true, None, Some, IsSome, IfSome, is_some, length, pos, slice_range};
+ghost use Rattle.std.specs.Prelude.{◌≡◌, ◌≢◌, ◌≤◌, ◌+◌, false, true, None, Some, IsSome, IfSome, is_some, length, pos, slice_range};
 ghost use Rattle.std.specs.Option.{IsSomeAnd};
 ghost use Rattle.far_word.specs.declared.refused.Refused.{Refused as Refusal};
 ghost use Rattle.far_word.specs.Refused.{refusal_number};
 ghost use Rattle.far_private.specs.Heap.{IsWhyNoAccess, is_length, new_object, object_with, size_of};
-ghost use Rattle.far_pool.specs.Pool.{Changes, IsWhyNone, Makes, NextGeneration, Same, Writes, count_in, refusal_of};
+ghost use Rattle.far_pool.specs.Pool.{Changes, IsWhyNone, Makes, NextGeneration, Same, Writes, count_in, len_at, refusal_of};
 ghost use Rattle.far_backed.specs.Named.{bytes_of, handle_of, object_of};
+ghost use Rattle.far_backed.specs.Sides.{IsNotGivenBy, IsNotTakenBy, IsStuckBy};
 ghost use Rattle.far_c.specs.Told.{IsToldBy};
-ghost use Rattle.far_c.specs.declared.status.TheConstants.{FAR_CLOSED, FAR_LENGTH, FAR_NOT_HELD, FAR_OK};
+ghost use Rattle.far_c.specs.declared.status.TheConstants.{FAR_CLOSED, FAR_LENGTH, FAR_NOT_HELD, FAR_NO_ROOM, FAR_OK};
 
 use crate::handle::{FarWorker, give, take_out};
 use crate::statistics::FarStatistics;
 use crate::status::{FAR_CLOSED, FAR_NOT_HELD, FAR_OK, status_of};
+use far_backed::Side;
+use far_device::Device;
 use std::alloc::Global;
 
 /// Makes an object of these bytes.
@@ -28,6 +31,7 @@ pub extern "C" fn far_alloc(
     ensures left { result ≢ FAR_OK → (worker.new.held.pool ≡ worker.old.held.pool) × (handle.new ≡ handle.old) }
     ensures long { IsSome worker.old.held.pool → is_length (length bytes.now) ≡ false → result ≡ FAR_LENGTH }
     ensures why { result ≢ FAR_OK → IfSome worker.old.held.pool (λ w. IsToldBy (IsWhyNone (length bytes.now)) result) }
+    ensures room { result ≡ FAR_NO_ROOM → IfSome worker.old.held.pool (λ w. 3 ≤ w.logs → IsStuckBy ⟦<Side as Device>⟧.writes w) }
     ensures closed { worker.old.held.pool ≡ None → result ≡ FAR_CLOSED }
 {
     match take_out(worker, alloc) {
@@ -59,6 +63,7 @@ pub extern "C" fn far_alloc_zeros(
     ensures left { result ≢ FAR_OK → (worker.new.held.pool ≡ worker.old.held.pool) × (handle.new ≡ handle.old) }
     ensures long { IsSome worker.old.held.pool → is_length len ≡ false → result ≡ FAR_LENGTH }
     ensures why { result ≢ FAR_OK → IfSome worker.old.held.pool (λ w. IsToldBy (IsWhyNone len) result) }
+    ensures room { result ≡ FAR_NO_ROOM → IfSome worker.old.held.pool (λ w. 3 ≤ w.logs → IsStuckBy ⟦<Side as Device>⟧.writes w) }
     ensures closed { worker.old.held.pool ≡ None → result ≡ FAR_CLOSED }
 {
     match take_out(worker, alloc) {
@@ -91,6 +96,7 @@ pub extern "C" fn far_read(
     ensures done { result ≡ FAR_OK → IsSomeAnd worker.old.held.pool (λ w. refusal_of (object_of w handle) from (length out.old) ≡ None) }
     ensures barred { IfSome worker.old.held.pool (λ w. (why : Refusal) → refusal_of (object_of w handle) from (length out.old) ≡ Some why → result ≡ pos (refusal_number why)) }
     ensures why { result ≢ FAR_OK → IfSome worker.old.held.pool (λ w. IsToldBy (IsWhyNoAccess w.honest (refusal_of (object_of w handle) from (length out.old))) result) }
+    ensures given { result ≢ FAR_OK → IfSome worker.old.held.pool (λ w. IsToldBy (IsNotGivenBy ⟦<Side as Device>⟧.reads (handle_of handle).pointer (len_at w (handle_of handle))) result) }
     ensures kept { result ≢ FAR_OK → out.new ≡ out.old }
     ensures closed { worker.old.held.pool ≡ None → result ≡ FAR_CLOSED }
 {
@@ -121,6 +127,8 @@ pub extern "C" fn far_write(
     ensures left { result ≢ FAR_OK → worker.new.held.pool ≡ worker.old.held.pool }
     ensures barred { IfSome worker.old.held.pool (λ w. (why : Refusal) → refusal_of (object_of w handle) from (length bytes.now) ≡ Some why → result ≡ pos (refusal_number why)) }
     ensures why { result ≢ FAR_OK → IfSome worker.old.held.pool (λ w. IsToldBy (IsWhyNoAccess w.honest (refusal_of (object_of w handle) from (length bytes.now))) result) }
+    ensures room { result ≡ FAR_NO_ROOM → IfSome worker.old.held.pool (λ w. 3 ≤ w.logs → IsNotTakenBy ⟦<Side as Device>⟧.writes w (handle_of handle).heap) }
+    ensures given { result ≢ FAR_OK → IfSome worker.old.held.pool (λ w. IsToldBy (IsNotGivenBy ⟦<Side as Device>⟧.reads (handle_of handle).pointer (len_at w (handle_of handle))) result) }
     ensures closed { worker.old.held.pool ≡ None → result ≡ FAR_CLOSED }
 {
     match take_out(worker, alloc) {
@@ -151,6 +159,7 @@ pub extern "C" fn far_exchange(
     ensures left { result ≢ FAR_OK → (worker.new.held.pool ≡ worker.old.held.pool) × (bytes.new ≡ bytes.old) }
     ensures barred { IfSome worker.old.held.pool (λ w. (why : Refusal) → refusal_of (object_of w handle) from (length bytes.old) ≡ Some why → result ≡ pos (refusal_number why)) }
     ensures why { result ≢ FAR_OK → IfSome worker.old.held.pool (λ w. IsToldBy (IsWhyNoAccess w.honest (refusal_of (object_of w handle) from (length bytes.old))) result) }
+    ensures room { result ≡ FAR_NO_ROOM → IfSome worker.old.held.pool (λ w. 3 ≤ w.logs → IsNotTakenBy ⟦<Side as Device>⟧.writes w (handle_of handle).heap) }
     ensures closed { worker.old.held.pool ≡ None → result ≡ FAR_CLOSED }
 {
     match take_out(worker, alloc) {

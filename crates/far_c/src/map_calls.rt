@@ -1,6 +1,6 @@
 //! Calls of a map that is open.
 
-ghost use Rattle.std.specs.Prelude.{◌≡◌, ◌≢◌, ◌<◌, ◌-◌, ◌^◌, ◌&&◌, nat_le, [], true, false, min, None, Some, IsSome, IfSome, length, take};
+ghost use Rattle.std.specs.Prelude.{◌≡◌, ◌≢◌, ◌<◌, ◌-◌, ◌^◌, ◌&&◌, nat_le, [], true, false, min, None, Some, IsSome, IfSome, length, take, drop};
 ghost use Rattle.std.specs.FinMap as fin;
 ghost use Rattle.std.specs.Option.{IsSomeAnd};
 ghost use Rattle.far_private.specs.Heap.{IsOutside};
@@ -28,6 +28,7 @@ fn has_room(key: usize, key_room: usize, value: usize, value_room: usize) -> boo
 pub extern "C" fn far_map_put(alloc: Global, map: &mut FarMap, key: &[u8], value: &[u8]) -> i32
     ensures put { result ≡ FAR_OK → IsSomeAnd map.old.held.kept (λ m. map.new.held.kept ≡ Some record { entries = fin.insert m.entries key.now value.now; rest = [] }) }
     ensures left { result ≢ FAR_OK → SameEntries map.old.held.kept map.new.held.kept }
+    ensures ended { IfSome map.new.held.kept (λ m. m.rest ≡ []) }
     ensures long { IsSome map.old.held.kept → is_key key.now ≡ false → result ≡ FAR_LENGTH }
     ensures why { result ≢ FAR_OK → IfSome map.old.held.kept (λ m. IsToldBy (IsWhyPut IsNoPlace IsOutside true (is_key key.now)) result) }
     ensures closed { map.old.held.kept ≡ None → result ≡ FAR_CLOSED }
@@ -45,7 +46,7 @@ pub extern "C" fn far_map_put(alloc: Global, map: &mut FarMap, key: &[u8], value
     }
 }
 
-/// Reads a key's value.
+/// Reads a key's value. What lies in `out` behind it stays.
 #[unsafe(no_mangle)]
 pub extern "C" fn far_map_get(
     alloc: Global,
@@ -58,7 +59,8 @@ pub extern "C" fn far_map_get(
     ensures got { result ≡ FAR_OK → IsSomeAnd map.old.held.kept (λ m. IsSomeAnd (fin.get m.entries key.now) (λ value. (len.new ≡ length value) × (take (length value) out.new ≡ value))) }
     ensures short { result ≡ FAR_SHORT → IsSomeAnd map.old.held.kept (λ m. IsSomeAnd (fin.get m.entries key.now) (λ value. (len.new ≡ length value) × (length out.old < length value) × (out.new ≡ out.old))) }
     ensures none { result ≡ FAR_NO_KEY → IfSome map.old.held.kept (λ m. fin.get m.entries key.now ≡ None) }
-    ensures left { result ≢ FAR_OK → result ≢ FAR_SHORT → len.new ≡ len.old }
+    ensures behind { drop len.new out.new ≡ drop len.new out.old }
+    ensures left { result ≢ FAR_OK → result ≢ FAR_SHORT → (len.new ≡ len.old) × (out.new ≡ out.old) }
     ensures why { result ≢ FAR_OK → result ≢ FAR_SHORT → result ≢ FAR_NO_KEY → IfSome map.old.held.kept (λ m. IsToldBy (IsOutside true) result) }
     ensures closed { map.old.held.kept ≡ None → result ≡ FAR_CLOSED }
 {
@@ -85,6 +87,7 @@ pub extern "C" fn far_map_get(
 pub extern "C" fn far_map_remove(alloc: Global, map: &mut FarMap, key: &[u8]) -> i32
     ensures removed { result ≡ FAR_OK → IsSomeAnd map.old.held.kept (λ m. (fin.contains_key m.entries key.now ≡ true) × (map.new.held.kept ≡ Some record { entries = fin.remove m.entries key.now; rest = [] })) }
     ensures left { result ≢ FAR_OK → SameEntries map.old.held.kept map.new.held.kept }
+    ensures ended { IfSome map.new.held.kept (λ m. m.rest ≡ []) }
     ensures none { result ≡ FAR_NO_KEY → IfSome map.old.held.kept (λ m. fin.contains_key m.entries key.now ≡ false) }
     ensures why { result ≢ FAR_OK → result ≢ FAR_NO_KEY → IfSome map.old.held.kept (λ m. IsToldBy (IsOutside true) result) }
     ensures closed { map.old.held.kept ≡ None → result ≡ FAR_CLOSED }
@@ -183,7 +186,7 @@ pub extern "C" fn far_map_begin(alloc: Global, map: &mut FarMap) -> i32
     }
 }
 
-/// Tells an entry that wasn't told yet.
+/// Tells an entry that wasn't told yet. What lies in the buffers behind it stays.
 #[unsafe(no_mangle)]
 #[tactic(auto, using(crate::proofs::Telling::told_first, crate::proofs::Telling::told_short, crate::proofs::Telling::told_none))]
 pub extern "C" fn far_map_next(
@@ -198,7 +201,9 @@ pub extern "C" fn far_map_next(
     ensures told { result ≡ FAR_OK → IsSomeAnd map.old.held.kept (λ m. IsSomeAnd map.new.held.kept (λ n. TellsFirst m.rest key_len.new value_len.new key.new value.new n.rest)) }
     ensures short { result ≡ FAR_SHORT → IsSomeAnd map.old.held.kept (λ m. IsSomeAnd map.new.held.kept (λ n. KeepsFirst m.rest key_len.new value_len.new (length key.old) (length value.old) n.rest)) }
     ensures end { result ≡ FAR_END → IfSome map.old.held.kept (λ m. m.rest ≡ []) }
+    ensures behind { (drop key_len.new key.new ≡ drop key_len.new key.old) × (drop value_len.new value.new ≡ drop value_len.new value.old) }
     ensures left { result ≢ FAR_OK → result ≢ FAR_SHORT → (map.new.held.kept ≡ map.old.held.kept) × (key_len.new ≡ key_len.old) × (value_len.new ≡ value_len.old) }
+    ensures kept { result ≢ FAR_OK → result ≢ FAR_SHORT → (key.new ≡ key.old) × (value.new ≡ value.old) }
     ensures why { result ≢ FAR_OK → result ≢ FAR_SHORT → result ≢ FAR_END → IfSome map.old.held.kept (λ m. IsToldBy (IsOutside true) result) }
     ensures closed { map.old.held.kept ≡ None → result ≡ FAR_CLOSED }
 {

@@ -2,6 +2,7 @@
 
 ghost use Rattle.std.specs.Prelude.{◌≡◌, ◌≢◌, pos};
 ghost use Rattle.far_word.specs.Refused.{refusal_number};
+ghost use Rattle.far_word.specs.declared.refused.Refused.TheVariants.{NoRoom};
 
 use far_word::Refused;
 
@@ -10,6 +11,9 @@ pub const FAR_OK: i32 = 0;
 
 /// Memory is refused.
 pub const FAR_MEMORY: i32 = 1;
+
+/// Nothing near can leave: memory is refused, or the far side is full.
+pub const FAR_NO_ROOM: i32 = 2;
 
 /// A length is none that an object has: 1 to 4,088.
 pub const FAR_LENGTH: i32 = 4;
@@ -39,13 +43,14 @@ pub const FAR_SHORT: i32 = 25;
 pub const FAR_END: i32 = 26;
 
 // The status of a refusal.
-#[tactic(auto, using(crate::proofs::Statuses::is_refused, crate::proofs::Statuses::is_below))]
+#[tactic(auto, using(crate::proofs::Statuses::is_refused, crate::proofs::Statuses::is_below, crate::proofs::Statuses::is_no_room))]
 pub(crate) fn status_of(why: Refused) -> i32
     ensures number { result ≡ pos (refusal_number why) }
     ensures refused { result ≢ FAR_OK }
     ensures there { result ≢ FAR_NO_KEY }
     ensures roomy { result ≢ FAR_SHORT }
     ensures more { result ≢ FAR_END }
+    ensures no_room { result ≡ FAR_NO_ROOM → why ≡ NoRoom }
 {
     why.number() as i32
 }
