@@ -12,7 +12,7 @@ pub enum Refused {
     Memory,
     #[error("no log has room")]
     NoRoom,
-    #[error("all pointer cells of the mutator are used")]
+    #[error("no pointer is free")]
     NoPointer,
     #[error("an object's length is 1 to 4088 bytes")]
     Length,

@@ -405,7 +405,7 @@ const REFUSALS: [(Refused, &str); 18] = [
     (Refused::NoRoom, "2 no log has room"),
     (
         Refused::NoPointer,
-        "3 all pointer cells of the mutator are used",
+        "3 no pointer is free",
     ),
     (Refused::Length, "4 an object's length is 1 to 4088 bytes"),
     (Refused::Closed, "5 the scope is closed"),
