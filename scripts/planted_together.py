@@ -1,7 +1,10 @@
 #!/usr/bin/env python3
 """Tries the edits of crates/CRATE/planted, many in one check, in a copy of the repository.
 
-    scripts/planted_together.py CRATE [EDIT..]
+    scripts/planted_together.py [--over CLONE] CRATE [EDIT..]
+
+With --over, over the libraries that the gate of that clone has built: only the functions that are changed are proved, and those that
+they call. Else by `rt check`, which proves the crate, and those below unless they are proved.
 
 A function is proved over the contracts of those that it calls. So edits of different functions are made together, and what
 each edit's own function owes then says whether the edit is refused. An edit that begins in a crate below, in code and
@@ -26,7 +29,9 @@ from edits import is_test, planted
 
 ROOT = pathlib.Path(__file__).resolve().parent.parent
 FUNCTION = re.compile(r"^( *)(?:pub(?:\([^)]*\))? +)?(?:const +)?(?:unsafe +)?(?:extern +\S+ +)?fn +(\w+)", re.M)
-OPENS = re.compile(r"^(?:unsafe +)?impl(?:<[^>]*>)? +(?:(?P<trait>[\w:]+)(?:<.*>)? +for +)?(?P<type>\w+)|^\}", re.M)
+OPENS = re.compile(
+    r"^(?:unsafe +)?impl(?:<(?:[^<>]|<[^<>]*>)*>)? +(?:(?P<trait>[\w:]+)(?:<(?P<of>\w*).*>)? +for +)?(?P<type>\w+)|^(?:pub +)?trait +(?P<own>\w+)|^\}", re.M
+)
 NAMES = re.compile(r"has no field|is not in scope|has no `|was not admitted")
 
 
@@ -64,8 +69,14 @@ def function_at(file, text, at):
     if f"\n{last[1]}}}\n" in text[last.end() : at]:
         return None
     block = [it for it in OPENS.finditer(text, 0, last.start())][-1:]
-    kind = block[0]["type"] if block and block[0]["type"] else ""
-    return file, kind, last[2]
+    kind = "".join((block[0][it] or "").split("::")[-1] for it in ("own", "type", "trait", "of")) if block else ""
+    return file, kind[:1].upper() + kind[1:], last[2]
+
+
+def path_of(file, kind, name):
+    """Returns the end of a function's name by which `--only` knows it: a method's module is that of its type."""
+    module = [it for it in file[len("src/") : -len(".rt")].split("/") if it not in ("lib", "main", "mod")]
+    return "::".join([kind, name] if kind else [*module, name])
 
 
 def grouped(edits):
@@ -77,7 +88,7 @@ def grouped(edits):
     return groups
 
 
-def checked(crate, group):
+def checked(crate, group, over):
     """Returns what a check says of the crate with these edits, which are taken back."""
     files = {file for edit in group for file, _, _, _ in edit.places}
     before = {file: (crate / file).read_text() for file in files}
@@ -86,7 +97,12 @@ def checked(crate, group):
         for at, old, new in sorted(here, reverse=True):
             text = text[:at] + new + text[at + len(old) :]
         (crate / file).write_text(text)
-    ran = subprocess.run(["rt", "check", "--jobs", "1"], cwd=crate, capture_output=True, text=True)
+    words = ["rt", "check", "--jobs", "1"]
+    if over:
+        copy = crate.parents[1]
+        words = [copy / "scripts/check_over.sh", over, crate.name, copy / "kept"]
+        words += [it for edit in group for function in sorted(edit.functions) for it in ("--only", path_of(*function))]
+    ran = subprocess.run(words, cwd=crate, capture_output=True, text=True)
     for file, text in before.items():
         (crate / file).write_text(text)
     return ran.stdout + ran.stderr
@@ -112,11 +128,9 @@ def owed(said):
 def verdict(edit, owing):
     """Returns whether an edit is refused, and by what."""
     goals, errors, is_read = [], [], False
-    for file, kind, name in edit.functions:
-        module = file[len("src/") : -len(".rt")].split("/")[-1]
+    for function in edit.functions:
         for symbol, (found, wrong) in owing.items():
-            *_, above, last = symbol.split("::")
-            if last == name and (above.startswith(kind) if kind else above in (module, "fn") or module == "lib"):
+            if symbol.endswith("::" + path_of(*function)):
                 goals, errors, is_read = goals + found, errors + wrong, True
     real = [it for it in errors if not NAMES.search(it)]
     if goals or real:
@@ -127,27 +141,31 @@ def verdict(edit, owing):
 
 
 def main(name, *names):
+    over = None
+    if name == "--over":
+        over, name, *names = names
     with tempfile.TemporaryDirectory(prefix="planted-") as folder:
-        # what was checked lies in out/, and is copied too
-        copy = pathlib.Path(shutil.copytree(ROOT, f"{folder}/copy", symlinks=True))
+        # what was checked lies in out/, and is copied too, if it is needed
+        left = shutil.ignore_patterns(".*", "out") if over else None
+        copy = pathlib.Path(shutil.copytree(ROOT, f"{folder}/copy", symlinks=True, ignore=left))
         crate = copy / "crates" / name
         edits = [Edit(it, text, crate) for it, text in planted(crate).items() if not is_test(text) and (not names or it in names)]
         missed = 0
         for group in grouped([it for it in edits if it.is_whole]):
-            said = checked(crate, group)
+            said = checked(crate, group, over)
             owing = owed(said)
             for edit in group:
                 is_refused, why = verdict(edit, owing) if owing else (False, f"NOT READ: {said.strip()[-200:]}")
                 missed += not is_refused
                 print(f"{edit.name}: {why}", flush=True)
-        for edit in (it for it in edits if it.is_below):
-            said = checked(crate, [edit])
+        for edit in (it for it in edits if it.is_below and not over):
+            said = checked(crate, [edit], None)
             # where a crate below isn't proved, this one isn't reached
             is_refused = f"crate {name}: modules" in said and "logic=not-proved" in said
             missed += not is_refused
             print(f"{edit.name}: {'refused' if is_refused else 'PROVED, or the crate below is not'}", flush=True)
     for edit in edits:
-        if not edit.is_whole and not edit.is_below:
+        if not edit.is_whole and (over or not edit.is_below):
             print(f"not tried, no function holds it whole: {edit.name}")
     return missed > 0
 
