@@ -1,10 +1,10 @@
 #!/usr/bin/env python3
 """Tries the edits of crates/CRATE/planted, many in one check, in a copy of the repository.
 
-    scripts/planted_together.py [--over CLONE] CRATE [EDIT..]
+    scripts/planted_together.py [--over CLONE KEPT] CRATE [EDIT..]
 
-With --over, over the libraries that the gate of that clone has built: only the functions that are changed are proved, and those that
-they call. Else by `rt check`, which proves the crate, and those below unless they are proved.
+With --over it checks, as scripts/check_over.sh, over the libraries that the gate of a clone has built, and only the functions that
+are changed and those that they call; KEPT keeps what is proved of the latter. Else by `rt check`, which proves all.
 
 A function is proved over the contracts of those that it calls. So edits of different functions are made together, and what
 each edit's own function owes then says whether the edit is refused. An edit that begins in a crate below, in code and
@@ -99,8 +99,8 @@ def checked(crate, group, over):
         (crate / file).write_text(text)
     words = ["rt", "check", "--jobs", "1"]
     if over:
-        copy = crate.parents[1]
-        words = [copy / "scripts/check_over.sh", over, crate.name, copy / "kept"]
+        clone, kept = over
+        words = [crate.parents[1] / "scripts/check_over.sh", clone, crate.name, pathlib.Path(kept).resolve()]
         words += [it for edit in group for function in sorted(edit.functions) for it in ("--only", path_of(*function))]
     ran = subprocess.run(words, cwd=crate, capture_output=True, text=True)
     for file, text in before.items():
@@ -143,7 +143,8 @@ def verdict(edit, owing):
 def main(name, *names):
     over = None
     if name == "--over":
-        over, name, *names = names
+        *over, name = names[:3]
+        names = names[3:]
     with tempfile.TemporaryDirectory(prefix="planted-") as folder:
         # what was checked lies in out/, and is copied too, if it is needed
         left = shutil.ignore_patterns(".*", "out") if over else None
