@@ -114,6 +114,9 @@ def page(crates: list) -> str:
 
 
 def main() -> int:
+    if "--help" in sys.argv:
+        print(__doc__.strip())
+        return 0
     unknown = [name for name in sys.argv[1:] if not (TOP / "crates" / name / "src" / "lib.rt").exists()]
     if unknown:
         print(f"api: no library here is named {', '.join(unknown)}", file=sys.stderr)

@@ -33,11 +33,14 @@ def spent(folder):
 
 
 def main() -> int:
-    if len(sys.argv) < 2:
+    if len(sys.argv) < 2 or sys.argv[1] == "--help":
         print(__doc__.strip(), file=sys.stderr)
         return 2
     folder, *rest = sys.argv[1:]
     total = spent(pathlib.Path(folder))
+    if not total:
+        print(f"dear: no check has left its files in {folder}", file=sys.stderr)
+        return 2
     so_far = 0.0
     for name, seconds in total.most_common(int(rest[0]) if rest else 40):
         so_far += seconds

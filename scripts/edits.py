@@ -13,6 +13,14 @@ import sys
 TOP = pathlib.Path(__file__).resolve().parent.parent
 
 
+def folder_of(crate: str) -> pathlib.Path:
+    """The folder of a crate."""
+    folder = TOP / "crates" / crate
+    if not (folder / "src").is_dir():
+        raise SystemExit(f"edits: there is no crate {crate}")
+    return folder
+
+
 def planted(crate: pathlib.Path) -> dict:
     """The text of each edit, by its name."""
     found, name = {}, None
@@ -34,8 +42,9 @@ def is_test(text: str) -> bool:
 
 
 def main(crate: str, folder: str, share: str = "1/1") -> int:
-    edits = [(name, text) for name, text in planted(TOP / "crates" / crate).items() if not is_test(text) and "file: ../" not in text]
+    edits = [(name, text) for name, text in planted(folder_of(crate)).items() if not is_test(text) and "file: ../" not in text]
     part, of = map(int, share.split("/"))
+    pathlib.Path(folder).mkdir(parents=True, exist_ok=True)
     for name, text in edits[(part - 1) * len(edits) // of : part * len(edits) // of]:
         (pathlib.Path(folder) / f"{name}.edit").write_text(text)
     return 0

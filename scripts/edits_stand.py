@@ -9,7 +9,7 @@ It takes a second, and says nothing of what the prover makes of them. Prints wha
 import pathlib
 import sys
 
-from edits import planted
+from edits import folder_of, planted
 
 TOP = pathlib.Path(__file__).resolve().parent.parent
 
@@ -57,7 +57,7 @@ def wrongs(crate: pathlib.Path, text: str) -> list:
 
 
 def main(*names: str) -> int:
-    crates = [TOP / "crates" / name for name in names] or sorted((TOP / "crates").iterdir())
+    crates = [folder_of(name) for name in names] or sorted((TOP / "crates").iterdir())
     stands = True
     for crate in crates:
         edits = {f"must-fail/{it.stem}": it.read_text() for it in sorted((crate / "must-fail").glob("*.edit"))}
@@ -69,4 +69,4 @@ def main(*names: str) -> int:
     return not stands
 
 
-sys.exit(main(*sys.argv[1:]))
+sys.exit(__doc__ if "--help" in sys.argv else main(*sys.argv[1:]))

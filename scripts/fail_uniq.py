@@ -402,7 +402,7 @@ def growths(program: str, library: str) -> None:
 
 
 def main() -> int:
-    if len(sys.argv) != 2:
+    if len(sys.argv) != 2 or sys.argv[1] == "--help":
         print(__doc__.strip(), file=sys.stderr)
         return 2
     program = os.path.abspath(sys.argv[1])

@@ -83,7 +83,7 @@ def differs(program: str, name: str, text: bytes) -> bool:
 
 
 def main() -> int:
-    if len(sys.argv) != 2:
+    if len(sys.argv) != 2 or sys.argv[1] == "--help":
         print(__doc__.strip(), file=sys.stderr)
         return 2
     return int(any([differs(sys.argv[1], name, text_of(*made)) for name, made in TEXTS.items()]))

@@ -186,6 +186,9 @@ def check_readme(page: pathlib.Path) -> None:
 
 def main() -> int:
     words = sys.argv[1:]
+    if "--help" in words:
+        print(__doc__.strip())
+        return 0
     readme_too = "--readme" in words
     given = [word for word in words if word != "--readme"]
     program = str(pathlib.Path(given[0]).resolve()) if given else str(TOP / "crates/far_trace/out/far_trace")

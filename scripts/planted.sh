@@ -10,6 +10,7 @@ set -euo pipefail
 crate="${1:?scripts/planted.sh CRATE [SHARE]}"
 share="${2:-1/1}"
 root="$(cd "$(dirname "${BASH_SOURCE[0]}")/.." && pwd)"
+[[ -d "$root/crates/$crate/planted" ]] || { echo "planted: crates/$crate/planted isn't there" >&2 && exit 2; }
 work="$(mktemp -d /tmp/planted.XXXXXX)"
 trap 'rm -rf "$work"' EXIT
 

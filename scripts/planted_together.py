@@ -25,7 +25,7 @@ import subprocess
 import sys
 import tempfile
 
-from edits import is_test, planted
+from edits import folder_of, is_test, planted
 
 ROOT = pathlib.Path(__file__).resolve().parent.parent
 FUNCTION = re.compile(r"^( *)(?:pub(?:\([^)]*\))? +)?(?:const +)?(?:unsafe +)?(?:extern +\S+ +)?fn +(\w+)", re.M)
@@ -145,6 +145,9 @@ def main(name, *names):
     if name == "--over":
         *over, name = names[:3]
         names = names[3:]
+    known = {it for it, text in planted(folder_of(name)).items() if not is_test(text)}
+    if not set(names) <= known:
+        raise SystemExit(f"planted_together: {name} has no edit {', '.join(sorted(set(names) - known))} for the prover")
     with tempfile.TemporaryDirectory(prefix="planted-") as folder:
         # what was checked lies in out/, and is copied too, if it is needed
         left = shutil.ignore_patterns(".*", "out") if over else None
@@ -172,4 +175,4 @@ def main(name, *names):
 
 
 if __name__ == "__main__":
-    sys.exit(main(*sys.argv[1:]) if len(sys.argv) > 1 else __doc__)
+    sys.exit(main(*sys.argv[1:]) if len(sys.argv) > 1 and sys.argv[1] != "--help" else __doc__)

@@ -51,7 +51,7 @@ def run(program: str, library: str, count: str, refused: int) -> tuple:
 
 
 def main() -> int:
-    if len(sys.argv) != 2:
+    if len(sys.argv) != 2 or sys.argv[1] == "--help":
         print(__doc__.strip(), file=sys.stderr)
         return 2
     program, endings = sys.argv[1], {"whole": 0, "refused": 0, "memory": 0, "round": 0, "audit": 0}
