@@ -4,10 +4,12 @@
 usage: vendor.py FOLDER CRATE..     as in vendor.py ~/mine far_pool far_map
 
 FOLDER/crates gets the crates, without tests and without the edits that their prover refuses, and FOLDER/crates.txt their lines, where it has none for them;
-beside them the licences, and FOLDER/docs/API-foxglovepeg.md: what may be called of the crates that were named, with each contract. A crate that is there already is
-left as it is, and said so.
+beside them the licences, and FOLDER/docs/API-foxglovepeg.md: what may be called of the crates that were named, now or earlier, with each contract. A crate that is
+there already is left as it is; where it isn't this repository's, that is said.
 """
+import filecmp
 import pathlib
+import re
 import shutil
 import sys
 
@@ -34,6 +36,13 @@ def below(crate: str, known: dict, found: list) -> list:
     return found
 
 
+def differs(ours: pathlib.Path, copy: pathlib.Path) -> bool:
+    """Whether a file that would be copied is another in a copy, or isn't there."""
+    others = filecmp.dircmp(ours, copy, ignore=["out", "must-fail", "planted"])
+    _, changed, unread = filecmp.cmpfiles(ours, copy, others.common_files, shallow=False)
+    return bool(others.left_only or changed or unread) or any(differs(ours / it, copy / it) for it in others.common_dirs)
+
+
 def main() -> int:
     if len(sys.argv) < 3:
         print(__doc__.strip(), file=sys.stderr)
@@ -50,7 +59,8 @@ def main() -> int:
         for crate in wanted:
             target = folder / "crates" / crate
             if target.exists():
-                print(f"vendor: {target} is there, and stays as it is")
+                if differs(TOP / "crates" / crate, target):
+                    print(f"vendor: {target} is another than here, and stays as it is")
             else:
                 shutil.copytree(TOP / "crates" / crate, target, ignore=LEFT_OUT)
             if crate not in named:
@@ -58,8 +68,10 @@ def main() -> int:
     for licence in LICENCES:
         shutil.copy(TOP / licence, folder / f"{licence}-foxglovepeg")
     (folder / "docs").mkdir(exist_ok=True)
-    libraries = [crate for crate in dict.fromkeys(sys.argv[2:]) if (TOP / "crates" / crate / "src" / "lib.rt").exists()]
-    (folder / "docs" / "API-foxglovepeg.md").write_text(api.page(libraries))
+    page = folder / "docs" / "API-foxglovepeg.md"
+    earlier = re.findall(r"^## (\w+)$", page.read_text(), re.M) if page.exists() else []
+    api.TOP = folder  # what the copies have
+    page.write_text(api.page([crate for crate in dict.fromkeys([*earlier, *sys.argv[2:]]) if (folder / "crates" / crate / "src" / "lib.rt").exists()]))
     return 0
 
 
