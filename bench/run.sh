@@ -8,6 +8,7 @@ if [[ -z "$program" ]]; then
     "$here/../scripts/far_trace" </dev/null
     program="$here/../crates/far_trace/out/far_trace"
 fi
+[[ -x "$program" && ! -d "$program" ]] || { echo "run.sh: $program is no program" >&2 && exit 2; }
 work="$(mktemp -d)"
 trap 'rm -rf "$work"' EXIT
 python3 "$here/generate.py" "$work"

@@ -3,6 +3,7 @@
 #
 #     bench/types.sh     after `rt ci` in this clone
 set -euo pipefail
+(($# == 0)) || { echo "usage: bench/types.sh" >&2 && exit 2; }
 root="$(cd "$(dirname "${BASH_SOURCE[0]}")/.." && pwd)"
 work="$(mktemp -d)"
 trap 'rm -rf "$work"' EXIT

@@ -5,7 +5,7 @@ usage: vendor.py FOLDER CRATE..     as in vendor.py ~/mine far_pool far_map
 
 FOLDER/crates gets the crates, without tests and without the edits that their prover refuses, and FOLDER/crates.txt their lines, where it has none for them;
 beside them the licences, and FOLDER/docs/API-foxglovepeg.md: what may be called of the crates that were named, now or earlier, with each contract. A crate that is
-there already is left as it is; where it isn't this repository's, that is said.
+there already is left as it is; where it isn't this repository's, that is said. A link of a page to what isn't copied becomes words.
 """
 import filecmp
 import pathlib
@@ -19,6 +19,7 @@ import api
 TOP = pathlib.Path(__file__).resolve().parent.parent
 LEFT_OUT = shutil.ignore_patterns("out", "must-fail", "planted")
 LICENCES = ("LICENSE-MIT", "LICENSE-APACHE")
+LINK = re.compile(r"\[([^\]]*)\]\(([^)#:\s]+)(#[^)\s]*)?\)")
 
 
 def rows(path: pathlib.Path) -> dict:
@@ -36,9 +37,23 @@ def below(crate: str, known: dict, found: list) -> list:
     return found
 
 
+def unlink(crate: str, folder: pathlib.Path) -> None:
+    """Makes words of those links of a copied page that lead to what isn't there."""
+
+    def words(link: re.Match) -> str:
+        if (folder / "crates" / crate / link[2]).exists():
+            return link[0]
+        at = (TOP / "crates" / crate / link[2]).resolve().relative_to(TOP)
+        return f"{link[1]} (Foxglovepeg: {at}{link[3] or ''})"
+
+    page = folder / "crates" / crate / "README.md"
+    if page.exists():
+        page.write_text(LINK.sub(words, page.read_text()))
+
+
 def differs(ours: pathlib.Path, copy: pathlib.Path) -> bool:
     """Whether a file that would be copied is another in a copy, or isn't there."""
-    others = filecmp.dircmp(ours, copy, ignore=["out", "must-fail", "planted"])
+    others = filecmp.dircmp(ours, copy, ignore=["out", "must-fail", "planted", "README.md"])
     _, changed, unread = filecmp.cmpfiles(ours, copy, others.common_files, shallow=False)
     return bool(others.left_only or changed or unread) or any(differs(ours / it, copy / it) for it in others.common_dirs)
 
@@ -55,6 +70,7 @@ def main() -> int:
         below(crate, known, wanted)
     (folder / "crates").mkdir(parents=True, exist_ok=True)
     named = rows(folder / "crates.txt")
+    copied = []
     with open(folder / "crates.txt", "a", encoding="utf-8") as lines:
         for crate in wanted:
             target = folder / "crates" / crate
@@ -63,8 +79,11 @@ def main() -> int:
                     print(f"vendor: {target} is another than here, and stays as it is")
             else:
                 shutil.copytree(TOP / "crates" / crate, target, ignore=LEFT_OUT)
+                copied.append(crate)
             if crate not in named:
                 lines.write(known[crate] + "\n")
+    for crate in copied:
+        unlink(crate, folder)
     for licence in LICENCES:
         shutil.copy(TOP / licence, folder / f"{licence}-foxglovepeg")
     (folder / "docs").mkdir(exist_ok=True)
