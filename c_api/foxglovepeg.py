@@ -366,6 +366,14 @@ class FarDict(_Held):
     def __iter__(self) -> "typing.Iterator[bytes]":
         return (key for key, _ in self.items())
 
+    def keys(self) -> "typing.Iterator[bytes]":
+        """Each key once, as items() has it. By this dict(..) of one is its copy."""
+        return iter(self)
+
+    def values(self) -> "typing.Iterator[bytes]":
+        """The value of each key, as items() has it."""
+        return (value for _, value in self.items())
+
     def statistics(self) -> "tuple[Statistics, Statistics]":
         """Of entries of at most 4,086 bytes, and of the parts of longer values."""
         entries, parts = Statistics(), Statistics()

@@ -1,6 +1,11 @@
 //! Foxglovepeg for Rust: objects of 1 to 4,088 bytes behind handles that no stale copy can misuse, and maps from bytes to bytes, some near, the others packed in
 //! memory, or in a file. `foxglovepeg.h` tells each call; here what C owes is seen to: a worker and a map are closed where they go, can't be copied, and stay on their thread.
-//! It isn't proved.
+//! It isn't proved. As a crate, FOLDER being what scripts/c_library filled:
+//!
+//! ```text
+//! rustc --edition 2021 -O --crate-type rlib -L FOLDER/lib -l static=foxglovepeg FOLDER/rust/foxglovepeg.rs
+//! rustc --edition 2021 -O -L FOLDER/lib --extern foxglovepeg=libfoxglovepeg.rlib PROGRAM.rs
+//! ```
 
 use std::ffi::CString;
 use std::fmt;

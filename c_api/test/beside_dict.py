@@ -105,6 +105,7 @@ def play_dict(calls: int, **place) -> None:
                 refused(KeyError, told.__getitem__, key)
         assert len(told) == len(kept) and all(told[key] == value for key, value in kept.items())
         assert sorted(told.items()) == sorted(kept.items()) and sorted(told) == sorted(kept)
+        assert dict(told) == kept and sorted(told.keys()) == sorted(kept) and sorted(told.values()) == sorted(kept.values())
         assert all(told[key] == kept[key] and key in told and len(told) == len(kept) for key in told)
         for change in (lambda: told.__setitem__(b"one more", b""), lambda: told.__delitem__(b"one more"), lambda: next(told.items()), told.clear):
             walk = told.items()
