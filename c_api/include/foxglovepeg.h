@@ -78,7 +78,7 @@ struct far_statistics {
     uint64_t live;          /* bytes near that objects take, each with a header of 8, in whole words */
     uint64_t dead;          /* bytes near that nothing needs, until a round gives them back */
     uint64_t unused;        /* bytes near that were not taken yet */
-    uint64_t far_bytes;     /* bytes of these */
+    uint64_t far_bytes;     /* bytes of those that aren't in memory */
     uint64_t accesses;      /* reads and writes, refused ones too */
     uint64_t fetches;       /* objects that were brought near */
     uint64_t looks;         /* reads of far objects where these lie, also those that failed */
@@ -86,7 +86,7 @@ struct far_statistics {
     uint64_t writes_spared; /* those of them that were there with these bytes already */
     uint64_t moves;         /* objects that went to another place near */
     uint64_t rounds;        /* rounds that were made */
-    uint64_t device_faults; /* objects for which there was no room */
+    uint64_t device_faults; /* writes of objects for which there was no room far */
     uint32_t heaps;         /* heaps of 2,048 objects at most */
 };
 

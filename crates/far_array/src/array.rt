@@ -15,7 +15,7 @@ use far_word::Refused;
 use std::alloc::Global;
 use std::marker::Model;
 
-/// Records of one size in far objects of a worker, which it owns. To a contract a list.
+/// Records of one size in far objects of a worker, which it owns. To a contract a list. Which bytes records have is said where the worker is honest.
 #[derive(Drop)]
 pub struct Array<O: Objects + Drop> {
     parts: Parts<O>,
@@ -90,7 +90,7 @@ impl<O: Objects + Drop> Array<O> {
     /// Writes record i to `out`.
     ///
     /// Refused, in this order: [`Refused::Range`] exactly where there is no record i; [`Refused::Length`] where `out` hasn't a record's
-    /// length; then as the worker says of an object that it didn't reach.
+    /// length; then as the worker says of an object that it didn't reach. `out` may have any bytes then.
     pub fn get(&mut self, i: usize, out: &mut [u8]) -> Result<(), Refused>
         ensures same { self.new ≡ self.old }
         ensures got { self.old.honest ≡ true → OnOk result (out.new ≡ slice_index_or self.old.items i []) }
@@ -109,7 +109,7 @@ impl<O: Objects + Drop> Array<O> {
     /// Writes records to `out`, from record i on, in one read: as many as it has room for, none past the end of their block. How many.
     ///
     /// Refused, in this order: [`Refused::Range`] exactly where there is no record i; [`Refused::Length`] where `out` has no room for one;
-    /// then as the worker says of an object that it didn't reach.
+    /// then as the worker says of an object that it didn't reach. `out` may have any bytes then, and behind what was read in any case.
     pub fn get_many(&mut self, i: usize, out: &mut [u8]) -> Result<usize, Refused>
         ensures same { self.new ≡ self.old }
         ensures many { IfOk result (λ n. n ≡ many_at self.old i (length out.old)) }

@@ -24,7 +24,7 @@ struct Held<T: Record + Drop, O: Objects + Drop> {
     of: PhantomData<T>,
 }
 
-/// Values of one type in far objects of a worker, which it owns. To a contract a list.
+/// Values of one type in far objects of a worker, which it owns. To a contract a list. Which values they are is said where the worker is honest.
 #[derive(Drop)]
 pub struct ArrayOf<T: Record + Drop, O: Objects + Drop> {
     held: Held<T, O>,

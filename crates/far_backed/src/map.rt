@@ -111,6 +111,7 @@ impl BackedMap {
     }
 
     /// How many bytes a key's value has, if it has one; `out` begins with them, where it has room for all, and is as it was behind them. Refused as [`Dict::get`] is.
+    /// Then, and where there isn't room for all, `out` is as it was.
     pub fn get(&mut self, key: &[u8], out: &mut [u8]) -> Result<Option<usize>, Refused>
         ensures same { self.new ≡ self.old }
         ensures long { length out.new ≡ length out.old }

@@ -15,7 +15,7 @@ use std::alloc::Global;
 use std::marker::Model;
 
 /// A map from bytes to bytes. An entry that an object has room for is an object of one worker; the value of another is cut into objects of a
-/// second one, and its key is near.
+/// second one, and its key is near. What calls tell of keys and values holds where both are honest.
 #[derive(Drop)]
 pub struct Dict<O: Objects + Drop> {
     pub(crate) short: Map<O>,

@@ -74,14 +74,14 @@ impl<O: Objects + Drop> Dict<O> {
         self.short.reserve(additional)
     }
 
-    /// The worker that has the short entries, each of them one object, and no others.
+    /// The worker that the short entries were put into. No clause names its objects here; within they are a [`Map`](far_map::Map)'s.
     pub fn worker(&self) -> &O
         ensures { (O.far result.now).honest ≡ self.now.honest }
     {
         self.short.worker()
     }
 
-    /// The worker that has the long values, and no other objects.
+    /// The worker that the long values were put into. No clause names its objects here; within each is part of one of them.
     pub fn long_worker(&self) -> &O
         ensures { (O.far result.now).honest ≡ self.now.honest_long }
     {

@@ -16,7 +16,7 @@ pub record Stands (tag : ℕ) (slots : List Slot) (found : Found) : Type 0 where
   pub slot : slot_at slots found.place ≡ Full tag found.number
   pub most : found.len ≤ MOST
 
--- the objects are the entries: each is one, and no two are the same
+-- each object is an entry, and no two are of one key. That each entry has an object isn't said
 pub record AreEntries (far : Far) (entries : Entries) : Type 0 where
   pub each : (number n : ℕ) → far.sizes number ≡ Some n → (key value : List ℕ) × (entry_of (far.bytes number) ≡ Some (key, value)) × (map.get entries key ≡ Some value)
   pub once : (h k m n : ℕ) (key v w : List ℕ) → far.sizes h ≡ Some m → far.sizes k ≡ Some n → entry_of (far.bytes h) ≡ Some (key, v) → entry_of (far.bytes k) ≡ Some (key, w) → h ≡ k

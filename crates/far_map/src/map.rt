@@ -21,7 +21,7 @@ use far_word::Refused;
 use std::alloc::Global;
 use std::marker::Model;
 
-/// A map from bytes to bytes, whose entries are the objects of its worker.
+/// A map from bytes to bytes, whose entries are objects of its worker. What calls tell of keys and values holds where the worker is honest.
 #[derive(Drop)]
 pub struct Map<O: Objects + Drop> {
     pub(crate) parts: Parts<O>,
@@ -83,7 +83,7 @@ impl<O: Objects + Drop> Map<O> {
         self.parts.near.count
     }
 
-    /// The worker. Its objects are the entries and no others.
+    /// The worker. Each of its objects is an entry, and no two are of one key.
     pub fn worker(&self) -> &O
         ensures honest { (O.far result.now).honest ≡ self.now.honest }
         ensures entries { self.now.honest ≡ true → AreEntries (O.far result.now) self.now.entries }
@@ -93,7 +93,7 @@ impl<O: Objects + Drop> Map<O> {
 
     /// Whether it has a key; then `out` has its value.
     ///
-    /// Refused as the worker's reads are, and [`Refused::Memory`] where `out` can't grow.
+    /// Refused as the worker's reads are, and [`Refused::Memory`] where `out` can't grow. Where the key isn't told to be there `out` may have any bytes.
     pub fn get(&mut self, key: &[u8], out: &mut Vec<u8>) -> Result<bool, Refused>
         ensures same { self.new ≡ self.old }
         ensures got { self.old.honest ≡ true → IfOk result (λ there. MatchOption (map.get self.old.entries key.now) (there ≡ false) (λ value. (there ≡ true) × (out.new.items ≡ value))) }
@@ -113,7 +113,7 @@ impl<O: Objects + Drop> Map<O> {
         Ok(true)
     }
 
-    /// Calls `look` at a key's value, where it lies near: nothing is copied. What it answers; none if the key isn't there.
+    /// Calls `look` at a key's value, in the buffer that the entry was read to. What it answers; none if the key isn't there.
     ///
     /// Refused as the worker's reads are; then `look` wasn't called.
     pub fn get_with<T, F: FnOnce(&[u8]) -> T>(

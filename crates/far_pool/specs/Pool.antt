@@ -76,7 +76,7 @@ pub record Same (w v : Pool) : Type 0 where
   pub all : (k : Handle) → at v k ≡ at w k
   pub generations : (k : Handle) → generation_in v k ≡ generation_in w k
 
--- from then on this is the object of a handle, or there is none; and of each other handle all is as before
+-- from then on this is the object of a handle, or there is none; and each other handle has what it had
 pub record Changes (h : Handle) (o : Option Object) (w v : Pool) : Type 0 where
   pub here : at v h ≡ o
   pub others : (k : Handle) → k ≢ h → at v k ≡ at w k
@@ -126,7 +126,7 @@ abbrev pub IsWhyNotWhole : Bool → Option Object → Refused → Type 0
 IsWhyNotWhole honest o NotHeld = o ≡ None
 IsWhyNotWhole honest o why = (is_some o ≡ true) × IsOutside honest why
 
--- why no object was made: its length is none that an object has; or the heap whose turn it is has no room, or none has a free pointer
+-- why no object was made: its length is none that an object has; else of three causes one, of which it isn't said here when it comes. Never for want of memory
 abbrev pub IsWhyNone : ℕ → Refused → Type 0
 IsWhyNone len Length = is_length len ≡ false
 IsWhyNone len NoPointer = is_length len ≡ true

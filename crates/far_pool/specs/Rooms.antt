@@ -6,7 +6,7 @@ use Rattle.far_pool.specs.declared.handle.Handle.{Handle}
 use Rattle.far_pool.specs.Pool.{Pool, at}
 
 module _ (D : Type 0) (writes : D → ℕ → List ℕ → Result (Unit {0}) DeviceFault → D → Type 0) where
-  -- the device of a heap was asked to take an object of this worker as it is, and refused
+  -- a device of this type, in some state, was asked to take an object of this heap as it is, and refused. Which device it was, and when, isn't said
   pub record IsNotTaken (w : Pool) (heap : ℕ) : Type 0 where
     pub handle : Handle
     pub beside : handle.heap ≡ heap
@@ -22,7 +22,7 @@ module _ (D : Type 0) (writes : D → ℕ → List ℕ → Result (Unit {0}) Dev
     pub after : D
     pub refused : writes before handle.pointer bytes (Err fault) after
 
-  -- the same of some heap
+  -- the same of an object of some heap
   abbrev pub IsStuck : Pool → Type 0
   IsStuck w = (heap : ℕ) × IsNotTaken w heap
 

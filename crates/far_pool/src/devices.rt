@@ -31,7 +31,7 @@ impl MakeDevice<MemDevice> for MemDevices {
     }
 }
 
-/// Makes devices over one file, which takes no more room than what they hold. No contract can say what a file gives back, so they aren't called
+/// Makes devices over one file, which has an extent of 16 KiB more where one of them needs it. No contract can say what a file gives back, so they aren't called
 /// honest. They keep no seal: other bytes that it gives are read as they are.
 #[derive(Drop)]
 pub struct FileDevices {

@@ -10,7 +10,7 @@ pub trait MakeDevice<D: Device + Drop> {
     /// Whether the devices are honest.
     ghost honest: { Bool };
 
-    /// The device of a heap, by its number, 0 for the first.
+    /// The device of a heap, by its number, 0 for the first: an honest one where all are. It may refuse by any cause, which the worker hands on.
     fn make(&mut self, heap: u32) -> Result<D, Refused>
         ensures honest { honest ≡ true → IfOk result (λ device. D.honest device ≡ true) };
 }

@@ -44,7 +44,7 @@ pub struct Layout {
 }
 
 impl Layout {
-    /// Bytes of its logs.
+    /// Bytes of its logs, of at most 64 a heap.
     pub fn near(&self) -> u64
         ensures { self.now.logs ≤ MOST_LOGS → result ≡ self.now.heaps * self.now.logs * LOG }
     {
@@ -72,7 +72,7 @@ pub enum Unplanned {
 }
 
 impl Plan {
-    /// A plan for so many bytes near: objects of 64 bytes, four times as many as find room there. From 12,288 bytes on it can be laid out.
+    /// A plan for so many bytes near: objects of 64 bytes, four times as many as find room there, or 2^32. From 12,288 bytes on it can be laid out.
     pub fn for_near(near: u64) -> Plan
         ensures near { result.near ≡ near }
         ensures typical { result.typical ≡ 64 }

@@ -264,8 +264,8 @@ impl<D: Device + Drop, M: MakeDevice<D> + Drop> Worker<D, M> {
     /// Makes a new object of `len` zero bytes, 1 to 4,088, for a data structure, a number of the program's own choice. Its handle had no object.
     ///
     /// Refused, in this order: [`Refused::Length`] exactly where the length is out of range; [`Refused::NoPointer`] where each heap has 2,048 objects, and then `add_heap`
-    /// makes room for more; [`Refused::NoRoom`] where the heap whose turn it is has none: of three logs a heap or more only where its device refused to
-    /// take an object; [`Refused::EpochsSpent`] once 2^62 rounds were made. The next call is another heap's.
+    /// makes room for more; [`Refused::NoRoom`] where the heap whose turn it is has none: of three logs a heap or more only where a device refused to
+    /// take an object of some heap; [`Refused::EpochsSpent`] once 2^62 rounds were made. The next call is another heap's.
     pub fn alloc_zeros(&mut self, len: u16, structure: u8) -> Result<Handle, Refused>
         ensures made { IfOk result (λ handle. Makes handle (new_object self.old.honest len structure) self.old self.new) }
         ensures inside { IfOk result (λ handle. IsOfHeaps MOST_HEAPS handle) }

@@ -62,7 +62,7 @@ module _ (D : Type 0) (reads : D → ℕ → Result (List ℕ) DeviceFault → D
     pub far : says_near (read_of (s.cell p)) ≡ false
     pub cause : WhyFar s p device why
 
-  -- what a user may know of it: the device was asked for this object, of so many bytes, and failed so, or gave more or fewer
+  -- what a user may know of it: a device of this type, in some state, was asked for this object, of so many bytes, and failed so, or gave more or fewer. Which, and when, isn't said
   abbrev pub IsNotGiven : ℕ → ℕ → Refused → Type 0
   IsNotGiven p len Memory = (before : D) × (after : D) × reads before p (Err fault.Memory) after
   IsNotGiven p len Device = (before : D) × (after : D) × reads before p (Err fault.Device) after
@@ -73,7 +73,7 @@ module _ (D : Type 0) (reads : D → ℕ → Result (List ℕ) DeviceFault → D
   abbrev pub StaysAway : State → ℕ → D → Refused → Type 0
   StaysAway s p device why = StaysFar s p device why ⊎ IsCrowded s p why
 
--- ---- what a user may know of it: the device was asked to take an object as it is, and refused
+-- ---- what a user may know of it: a device of this type, in some state, was asked to take an object as it is, and refused. Which, and when, isn't said
 module _ (D : Type 0) (writes : D → ℕ → List ℕ → Result (Unit {0}) DeviceFault → D → Type 0) where
   pub record IsNotTaken (object : ℕ → Option Object) : Type 0 where
     pub pointer : ℕ

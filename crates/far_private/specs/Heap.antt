@@ -68,7 +68,7 @@ is_logs logs = nat_le 2 logs && nat_le logs 64
 abbrev pub access_refusal : Heap → ℕ → ℕ → ℕ → Option Refused
 access_refusal h p from count = if has h p then (if nat_lt 0 count && nat_le (from + count) (len_in h p) then None else Some Range) else Some NotHeld
 
--- an access that may be made is refused where no log has room for a far object after so many rounds, or none could be freed since 2^62 rounds were made, or where the far side fails it; an honest one never gives other bytes than it should
+-- by what an access may be refused that nothing bars before: by one of these causes, of which it isn't said here when it comes, and never Damaged by an honest far side
 abbrev pub IsOutside : Bool → Refused → Type 0
 IsOutside honest Memory = Unit {0}
 IsOutside honest NoRoom = Unit {0}
@@ -83,7 +83,7 @@ IsWhyNoAccess honest o NotHeld = o ≡ Some NotHeld
 IsWhyNoAccess honest o Range = o ≡ Some Range
 IsWhyNoAccess honest o why = (o ≡ None) × IsOutside honest why
 
--- ---- when no object is made: its length is none that an object has; or each pointer has an object; or no log has room after so many rounds, or none could be freed since 2^62 were made
+-- ---- when no object is made
 abbrev pub is_length : ℕ → Bool
 is_length len = nat_lt 0 len && nat_le len LONGEST
 
@@ -93,7 +93,7 @@ IsFull h = (p : ℕ) → p < POINTERS → IsSome (object h p)
 abbrev pub HasFree : Heap → Type 0
 HasFree h = (p : ℕ) × (p < POINTERS) × (object h p ≡ None)
 
--- why none was made
+-- why none was made: its length is none that an object has; or each pointer has an object; or there was no room, of which more is said by IsNotTaken alone
 abbrev pub IsWhyNoObject : Heap → ℕ → Refused → Type 0
 IsWhyNoObject h len Length = is_length len ≡ false
 IsWhyNoObject h len NoPointer = (is_length len ≡ true) × IsFull h

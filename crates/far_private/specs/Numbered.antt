@@ -29,7 +29,7 @@ far_by honest o = record { honest = honest; sizes = λ n. size_of (fitted honest
 abbrev pub far_of : Heap → Far
 far_of h = far_by h.honest (object h)
 
--- why no object is made, though it has a length: each pointer has an object; or no log has room after so many rounds, or none could be freed since 2^62 were made
+-- why no object is made, though it has a length: one of these causes, of which it isn't said here when it comes
 abbrev pub IsNoPlace : Refused → Type 0
 IsNoPlace NoPointer = Unit {0}
 IsNoPlace NoRoom = Unit {0}

@@ -17,7 +17,7 @@ use std::alloc::Global;
 use std::marker::Model;
 
 /// A set of lines of one byte or more. One of up to 4,088 bytes is an object of its worker, a longer one several. Near it has 10 bytes a
-/// slot, and for each long line some 100, and 4 for each of its objects.
+/// slot, and for each long line some 100, and 4 for each of its objects. Which lines it has is said where the worker is honest.
 #[derive(Drop)]
 pub struct Seen<O: Objects + Drop> {
     parts: Parts<O>,

@@ -21,7 +21,7 @@ use std::alloc::Global;
 use std::marker::Model;
 
 /// How often each line of one byte or more came, in the order in which each came first. Near it has 12 bytes a line beside what a
-/// [`Seen`](crate::Seen) has.
+/// [`Seen`](crate::Seen) has. Which line it was is said where the worker is honest.
 #[derive(Drop)]
 pub struct Tally<O: Objects + Drop> {
     roll: Roll<O>,

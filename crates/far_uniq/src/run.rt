@@ -30,7 +30,8 @@ pub struct Printed {
 }
 
 /// Prints each line of the input the first time it comes. Far objects are kept by the devices that `devices` makes; `honest` may be true only
-/// where these are proved so. Where it isn't, a line is left out only after one of its length and its hash, begun with the seed.
+/// where these are proved so. Where it isn't, a line is left out only after one of its length and its hash, begun with the seed. What is printed is said of
+/// an input and an output that tell their bytes.
 ///
 /// Refused before the first line: there is no memory, or no device.
 pub fn print_firsts<D: Device + Drop, M: MakeDevice<D> + Drop, R: Read, W: Write>(
