@@ -86,7 +86,7 @@ def items(path: pathlib.Path) -> list:
             depth = len(line) - len(line.lstrip())
             if depth == 0 or block:
                 found.append((block if depth else it[1], it[1] if depth else "", [row[depth:] for row in head_of(lines, at)], comment))
-        if not word.startswith("#["):
+        if not word.startswith(("#[", "//")):
             comment = []
     return found
 
