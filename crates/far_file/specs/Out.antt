@@ -10,7 +10,7 @@ IsOut owned none Memory = Unit {0}
 IsOut owned none Slot = owned
 IsOut owned none Extent = none
 
--- no extent has another number; of extents that several devices share nothing is said
+-- no number is left for another extent; of extents that devices share nothing is said
 abbrev pub HasNoMore : ℕ → Option Extents → Type 0
 HasNoMore below None = 2 ^ 32 - 1 ≤ below
 HasNoMore below (Some extents) = Unit {0}

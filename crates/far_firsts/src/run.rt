@@ -25,7 +25,8 @@ pub const READ: usize = 65_536;
 /// `end` ends a line; what follows the last one is a line too, if it has bytes, and gets an end. A line may have `longest` bytes, which
 /// lie near until it is printed: twice so many are asked for, and those are used that lines have. A longer one is refused
 /// [`Refused::Length`], and what came before is printed then. Over a far side that lies a line may be printed again; it is left out only
-/// after another one of its length and its hash, of 48 bits. Whole lines of the input are printed, in its order, and nothing else.
+/// after another one of its length and its hash, of 48 bits. Whole lines of the input are printed, in its order, and nothing else; where the
+/// output fails, a beginning of that. All this is said of an input and an output that tell their bytes.
 pub fn uniq<O: Objects + Drop, R: Read, W: Write>(
     alloc: Global,
     seen: &mut Seen<O>,

@@ -126,7 +126,7 @@ abbrev pub IsWhyNotWhole : Bool → Option Object → Refused → Type 0
 IsWhyNotWhole honest o NotHeld = o ≡ None
 IsWhyNotWhole honest o why = (is_some o ≡ true) × IsOutside honest why
 
--- why no object was made: its length is none that an object has; else of three causes one, of which it isn't said here when it comes. Never for want of memory
+-- why no object was made: its length is none that an object has; else one of three causes. When each comes isn't said here; Memory never does
 abbrev pub IsWhyNone : ℕ → Refused → Type 0
 IsWhyNone len Length = is_length len ≡ false
 IsWhyNone len NoPointer = is_length len ≡ true

@@ -72,7 +72,7 @@ pub enum Unplanned {
 }
 
 impl Plan {
-    /// A plan for so many bytes near: objects of 64 bytes, four times as many as find room there, or 2^32. From 12,288 bytes on it can be laid out.
+    /// A plan for so many bytes near: objects of 64 bytes, four times as many as find room there, 2^32 at most. From 12,288 bytes on it can be laid out.
     pub fn for_near(near: u64) -> Plan
         ensures near { result.near ≡ near }
         ensures typical { result.typical ≡ 64 }

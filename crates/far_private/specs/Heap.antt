@@ -68,7 +68,7 @@ is_logs logs = nat_le 2 logs && nat_le logs 64
 abbrev pub access_refusal : Heap → ℕ → ℕ → ℕ → Option Refused
 access_refusal h p from count = if has h p then (if nat_lt 0 count && nat_le (from + count) (len_in h p) then None else Some Range) else Some NotHeld
 
--- by what an access may be refused that nothing bars before: by one of these causes, of which it isn't said here when it comes, and never Damaged by an honest far side
+-- what may refuse an access that nothing bars before. When each comes isn't said here; Damaged never does over an honest far side
 abbrev pub IsOutside : Bool → Refused → Type 0
 IsOutside honest Memory = Unit {0}
 IsOutside honest NoRoom = Unit {0}
@@ -93,7 +93,7 @@ IsFull h = (p : ℕ) → p < POINTERS → IsSome (object h p)
 abbrev pub HasFree : Heap → Type 0
 HasFree h = (p : ℕ) × (p < POINTERS) × (object h p ≡ None)
 
--- why none was made: its length is none that an object has; or each pointer has an object; or there was no room, of which more is said by IsNotTaken alone
+-- why none was made: its length is none that an object has; or each pointer has an object; or there was no room, of which IsNotTaken says more
 abbrev pub IsWhyNoObject : Heap → ℕ → Refused → Type 0
 IsWhyNoObject h len Length = is_length len ≡ false
 IsWhyNoObject h len NoPointer = (is_length len ≡ true) × IsFull h

@@ -29,7 +29,7 @@ far_by honest o = record { honest = honest; sizes = λ n. size_of (fitted honest
 abbrev pub far_of : Heap → Far
 far_of h = far_by h.honest (object h)
 
--- why no object is made, though it has a length: one of these causes, of which it isn't said here when it comes
+-- what may refuse to make an object of a length that one may have. When each comes isn't said here
 abbrev pub IsNoPlace : Refused → Type 0
 IsNoPlace NoPointer = Unit {0}
 IsNoPlace NoRoom = Unit {0}
