@@ -250,7 +250,12 @@ class Worker(_Held):
         return self._short.value
 
     def __contains__(self, handle: int) -> bool:
-        return not handle >> 64 and _lib.far_holds(self._at, handle) == 0
+        if handle >> 64:
+            return False
+        status = _lib.far_holds(self._at, handle)
+        if status not in (0, 7):
+            _done(status)
+        return status == 0
 
     def add_heap(self) -> None:
         """Room for 2,048 objects more."""

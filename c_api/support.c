@@ -260,14 +260,14 @@ const char *far_status_text(int32_t status) {
     switch (status) {
     case FAR_OK: return "done";
     case FAR_MEMORY: return "out of memory";
-    case FAR_NO_ROOM: return "no log has room";
-    case FAR_NO_POINTER: return "all pointers are used";
+    case FAR_NO_ROOM: return "nothing near can leave: memory is refused, or the far side is full";
+    case FAR_NO_POINTER: return "each heap has its 2048 objects";
     case FAR_LENGTH: return "an object has 1 to 4088 bytes, and a key at most 4086";
     case FAR_NOT_HELD: return "there is no such object";
-    case FAR_RANGE: return "out of range";
+    case FAR_RANGE: return "no byte was asked for, or they pass the object's end";
     case FAR_DEVICE: return "a far object is lost";
     case FAR_DAMAGED: return "a far object has another length";
-    case FAR_EPOCHS_SPENT: return "no epoch is left";
+    case FAR_EPOCHS_SPENT: return "2^62 rounds were made";
     case FAR_CLOSED: return "it is not open";
     case FAR_OPEN: return "it is open already";
     case FAR_OBJECTS: return "a worker has at most 4294967296 objects";

@@ -9,9 +9,9 @@
  *
  * Each function but far_status_text, far_open_file, far_open_folder, far_trim and the same of a map, which are in c_api/support.c, is proved. What C owes: a
  * `struct far_worker` or `struct far_map` is all zero, or as the last call left it; none
- * that is open is copied; one call at a time has it; no two arguments of a call overlap, unless it writes to neither; no pointer is NULL, also where its length is 0. Then no call aborts,
- * whatever the numbers are: a handle that has no object, a length that doesn't fit, a second close, a call of a worker or a map that isn't open are answered
- * by a status. A handle of another worker, or one made up, may be one of this worker's too.
+ * that is open is copied; one call at a time has it; no two arguments of a call overlap, unless it writes to neither; a pointer leads to as many bytes as the length
+ * beside it says, and none is NULL, also where that is 0. Then no call aborts, whatever the numbers are: a handle that has no object, a length that doesn't fit, a second
+ * close, a call of a worker or a map that isn't open are answered by a status. A handle of another worker, or one made up, may be one of this worker's too.
  *
  * Threads: a worker and a map stay on the thread that opened them. Several threads have some each. No call waits, takes a lock, or starts a thread. No
  * call may come from a signal handler.
@@ -109,10 +109,12 @@ int32_t far_heaps(uint64_t near_bytes, uint64_t objects, uint16_t typical, uint3
 /* The same in a file: `far_bytes` bytes of it, an equal part for each heap, in whole pages. fd is open for reading and writing, of a file that nobody else uses; once the
  * call is back, it may be closed. What the file had is written over; a refused call may leave it longer. Heaps that far_add_heap adds have as much of malloc's instead.
  *
- * As far_open_memory, and FAR_FAR; FAR_FILE: the file has no room (ENOSPC, EDQUOT, EFBIG), or can't be mapped, or 1,024 are open (EMFILE). */
+ * In this order: as far_open_memory by the numbers; FAR_FAR; FAR_FILE: the file has no room (ENOSPC, EDQUOT, EFBIG), or can't be mapped, or 1,024 are open (EMFILE);
+ * FAR_MEMORY. */
 int32_t far_open_file(struct far_worker *worker, uint64_t near_bytes, uint64_t objects, uint16_t typical, int fd, uint64_t far_bytes);
 
-/* The same in a file of a folder, mode 0600, which has no name: it is gone with the worker, also where the program is killed. */
+/* The same in a file of a folder, mode 0600, which has no name: it is gone with the worker, also where the program is killed. Where none can be made there, FAR_FILE
+ * comes before all but FAR_OPEN. */
 int32_t far_open_folder(struct far_worker *worker, uint64_t near_bytes, uint64_t objects, uint16_t typical, const char *folder, uint64_t far_bytes);
 
 /* Gives back memory that has what the file of far_open_file or far_open_folder has, all of which may be resident at last: what is asked for then comes from the system's

@@ -84,6 +84,7 @@ def play(calls: int, **place) -> None:
         worker.add_heap()
         worker.alloc(b"x")
     refused(far.Closed, worker.alloc, b"x")
+    refused(far.Closed, worker.__contains__, 0)
     refused(far.Closed, worker.close)
 
 

@@ -196,8 +196,8 @@ static void texts(void) {
     static const struct {
         int32_t status;
         const char *word;
-    } WORDS[] = {{FAR_OK, "done"}, {FAR_MEMORY, "memory"}, {FAR_NO_ROOM, "room"}, {FAR_NO_POINTER, "pointers"}, {FAR_LENGTH, "4088"}, {FAR_NOT_HELD, "no such object"}, {FAR_RANGE, "range"},
-        {FAR_DEVICE, "lost"}, {FAR_DAMAGED, "another length"}, {FAR_EPOCHS_SPENT, "epoch"}, {FAR_CLOSED, "not open"}, {FAR_OPEN, "already"}, {FAR_OBJECTS, "4294967296"}, {FAR_NEAR, "near"},
+    } WORDS[] = {{FAR_OK, "done"}, {FAR_MEMORY, "memory"}, {FAR_NO_ROOM, "can leave"}, {FAR_NO_POINTER, "2048"}, {FAR_LENGTH, "4088"}, {FAR_NOT_HELD, "no such object"}, {FAR_RANGE, "no byte"},
+        {FAR_DEVICE, "lost"}, {FAR_DAMAGED, "another length"}, {FAR_EPOCHS_SPENT, "rounds"}, {FAR_CLOSED, "not open"}, {FAR_OPEN, "already"}, {FAR_OBJECTS, "4294967296"}, {FAR_NEAR, "near"},
         {FAR_NO_KEY, "key"}, {FAR_SHORT, "buffer"}, {FAR_END, "entry"}, {FAR_FILE, "file"}, {FAR_FAR, "far for"}};
     enum { ALL = sizeof WORDS / sizeof *WORDS };
     for (int32_t status = -2; status < 40; status++) {
