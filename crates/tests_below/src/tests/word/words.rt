@@ -403,10 +403,7 @@ fn objects_counted(rt: HostRuntime) {
 const REFUSALS: [(Refused, &str); 18] = [
     (Refused::Memory, "1 out of memory"),
     (Refused::NoRoom, "2 no log has room"),
-    (
-        Refused::NoPointer,
-        "3 no pointer is free",
-    ),
+    (Refused::NoPointer, "3 no pointer is free"),
     (Refused::Length, "4 an object's length is 1 to 4088 bytes"),
     (Refused::Closed, "5 the scope is closed"),
     (Refused::AlreadyOpen, "6 the scope is open"),
