@@ -15,3 +15,7 @@ object_of w n = at w (handle_of n)
 -- its bytes, where they are known: the far side is memory
 abbrev pub bytes_of : Pool → ℕ → Option (List ℕ)
 bytes_of w n = bytes_at w (handle_of n)
+
+-- the most heaps of a worker
+abbrev pub most_heaps : ℕ
+most_heaps = 2097152

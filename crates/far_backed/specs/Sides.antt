@@ -1,8 +1,6 @@
 -- What a worker's device refused, by what its calls are.
 use Rattle.std.specs.Prelude.{ℕ, List, Result}
-use Rattle.far_word.specs.declared.refused.Refused.{Refused}
 use Rattle.far_device.specs.declared.fault.DeviceFault.{DeviceFault}
-use Rattle.far_private.specs.Causes.{IsNotGiven}
 use Rattle.far_pool.specs.Pool.{Pool}
 use Rattle.far_pool.specs.Rooms.{IsNotTaken, IsStuck}
 
@@ -13,7 +11,3 @@ module _ {D : Type 0} where
 
   abbrev pub IsNotTakenBy : (D → ℕ → List ℕ → Result (Unit {0}) DeviceFault → D → Type 0) → Pool → ℕ → Type 0
   IsNotTakenBy writes w heap = IsNotTaken D writes w heap
-
-  -- its read of an object
-  abbrev pub IsNotGivenBy : (D → ℕ → Result (List ℕ) DeviceFault → D → Type 0) → ℕ → ℕ → Refused → Type 0
-  IsNotGivenBy reads pointer len why = IsNotGiven D reads pointer len why

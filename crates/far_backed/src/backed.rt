@@ -2,13 +2,13 @@
 
 ghost use Rattle.std.specs.Prelude.{◌≡◌, ◌≢◌, ◌<◌, ◌+◌, ℕ, true, false, Option, None, Some, Err, length, slice_range, IfOk, IfErr, IfSome, OnErr, OnOk, is_some, ◌≤◌};
 ghost use Rattle.far_word.specs.declared.refused.Refused.{Refused as Refusal};
-ghost use Rattle.far_word.specs.declared.refused.Refused.TheVariants.{Length, NoRoom, NotHeld};
-ghost use Rattle.far_private.specs.Heap.{IsWhyNoAccess, is_length, new_object, object_with, size_of};
-ghost use Rattle.far_pool.specs.Pool.{Changes, IsWhyNone, Makes, NextGeneration, Same, Writes, count_in, len_at, refusal_of};
+ghost use Rattle.far_word.specs.declared.refused.Refused.TheVariants.{Length, Memory, NoPointer, NoRoom, NotHeld, Shape};
+ghost use Rattle.far_private.specs.Heap.{IsWhyNoAccess, is_length, is_logs, new_object, object_with, size_of};
+ghost use Rattle.far_pool.specs.Pool.{Changes, IsWhyNoHeap, IsWhyNoWorker, IsWhyNone, Makes, NextGeneration, Same, Writes, count_in, refusal_of};
 ghost use Rattle.far_private.specs.Causes.{IsFault};
 ghost use Rattle.far_private.specs.Objects.{Object};
-ghost use Rattle.far_backed.specs.Sides.{IsNotGivenBy, IsNotTakenBy, IsStuckBy};
-ghost use Rattle.far_backed.specs.Named.{bytes_of, handle_of, object_of};
+ghost use Rattle.far_backed.specs.Sides.{IsNotTakenBy, IsStuckBy};
+ghost use Rattle.far_backed.specs.Named.{bytes_of, handle_of, most_heaps, object_of};
 
 use crate::named::{named, number_of};
 use crate::sides::{Side, Sides};
@@ -57,6 +57,9 @@ impl Backed {
         ensures honest { IfOk result (λ worker. worker.honest ≡ true) }
         ensures logs { IfOk result (λ worker. worker.logs ≡ layout.logs) }
         ensures heaps { IfOk result (λ worker. length worker.shelves ≡ layout.heaps) }
+        ensures many { most_heaps < layout.heaps → result ≡ Err NoPointer }
+        ensures shape { layout.heaps ≤ most_heaps → is_logs layout.logs ≡ false → result ≡ Err Shape }
+        ensures why { IfErr result (IsWhyNoWorker (λ why. why ≡ Memory) layout) }
     {
         match Worker::new(alloc, Sides::in_memory(alloc), layout, true) {
             Ok(worker) => Ok(Backed { worker }),
@@ -70,6 +73,9 @@ impl Backed {
         ensures honest { IfOk result (λ worker. worker.honest ≡ true) }
         ensures logs { IfOk result (λ worker. worker.logs ≡ layout.logs) }
         ensures heaps { IfOk result (λ worker. length worker.shelves ≡ layout.heaps) }
+        ensures many { most_heaps < layout.heaps → result ≡ Err NoPointer }
+        ensures shape { layout.heaps ≤ most_heaps → is_logs layout.logs ≡ false → result ≡ Err Shape }
+        ensures why { IfErr result (IsWhyNoWorker (λ why. why ≡ Memory) layout) }
     {
         match Worker::new(alloc, Sides::reserved(alloc, room), layout, true) {
             Ok(worker) => Ok(Backed { worker }),
@@ -82,6 +88,8 @@ impl Backed {
         ensures same { Same self.old self.new }
         ensures more { IfOk result (λ heap. (heap ≡ length self.old.shelves) × (length self.new.shelves ≡ length self.old.shelves + 1)) }
         ensures refused { OnErr result (self.new ≡ self.old) }
+        ensures full { length self.old.shelves ≡ most_heaps → result ≡ Err NoPointer }
+        ensures why { IfErr result (IsWhyNoHeap (λ why. why ≡ Memory) (length self.old.shelves)) }
     {
         self.worker.add_heap()
     }
@@ -149,7 +157,6 @@ impl Backed {
         ensures barred { (why : Refusal) → refusal_of (object_of self.old number) from (length out.old) ≡ Some why → result ≡ Err why }
         ensures why { IfErr result (λ why. IsWhyNoAccess self.old.honest (refusal_of (object_of self.old number) from (length out.old)) why) }
         ensures fault { refusal_of (object_of self.old number) from (length out.old) ≡ None → IfErr result (λ why. IsFault why) }
-        ensures given { IfErr result (IsNotGivenBy ⟦<Side as Device>⟧.reads (handle_of number).pointer (len_at self.old (handle_of number))) }
         ensures kept { OnErr result (out.new ≡ out.old) }
     {
         let handle = named(number);
@@ -164,7 +171,6 @@ impl Backed {
         ensures barred { (why : Refusal) → refusal_of (object_of self.old number) from (length bytes.now) ≡ Some why → result ≡ Err why }
         ensures why { IfErr result (λ why. IsWhyNoAccess self.old.honest (refusal_of (object_of self.old number) from (length bytes.now)) why) }
         ensures room { result ≡ Err NoRoom → 3 ≤ self.old.logs → IsNotTakenBy ⟦<Side as Device>⟧.writes self.old (handle_of number).heap }
-        ensures given { IfErr result (IsNotGivenBy ⟦<Side as Device>⟧.reads (handle_of number).pointer (len_at self.old (handle_of number))) }
     {
         let handle = named(number);
         self.worker.write(handle, from, bytes)

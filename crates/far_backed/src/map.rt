@@ -1,13 +1,15 @@
 //! The map.
 
-ghost use Rattle.std.specs.Prelude.{◌≡◌, ◌≤◌, ◌<◌, ◌-◌, ◌^◌, [], true, false, not, min, None, Some, Ok, Err, length, take, drop, IfOk, IfErr, IfSome, MatchOption, OnErr, OnOk, IsSome};
+ghost use Rattle.std.specs.Prelude.{◌≡◌, ◌≤◌, ◌<◌, ◌⊎◌, ◌-◌, ◌^◌, [], true, false, not, min, None, Some, Ok, Err, length, take, drop, IfOk, IfErr, IfSome, MatchOption, OnErr, OnOk, IsSome};
 ghost use Rattle.std.specs.FinMap as map;
-ghost use Rattle.far_word.specs.declared.refused.Refused.TheVariants.{Length, Memory};
-ghost use Rattle.far_private.specs.Heap.{IsOutside};
+ghost use Rattle.far_word.specs.declared.refused.Refused.TheVariants.{Length, Memory, NoPointer, Shape};
+ghost use Rattle.far_private.specs.Heap.{IsOutside, is_logs};
 ghost use Rattle.far_private.specs.Numbered.{IsNoPlace};
+ghost use Rattle.far_pool.specs.Pool.{IsWhyNoWorker};
 ghost use Rattle.far_map.specs.Listed.{AreAllOf};
 ghost use Rattle.far_dict.specs.Causes.{IsWhyPut, is_key};
 ghost use Rattle.far_dict.specs.Tours.{Tells};
+ghost use Rattle.far_backed.specs.Named.{most_heaps};
 
 use crate::sides::{Side, Sides};
 use far_dict::{Dict, Tour};
@@ -46,6 +48,9 @@ impl BackedMap {
     ) -> Result<BackedMap, Refused>
         ensures empty { IfOk result (λ m. m.entries ≡ map.empty) }
         ensures ended { IfOk result (λ m. m.rest ≡ []) }
+        ensures many { most_heaps < layout.heaps → result ≡ Err NoPointer }
+        ensures shape { layout.heaps ≤ most_heaps → is_logs layout.logs ≡ false → result ≡ Err Shape }
+        ensures why { IfErr result (λ why. IsWhyNoWorker (λ w. w ≡ Memory) layout why ⊎ IsWhyNoWorker (λ w. w ≡ Memory) long_layout why) }
     {
         let (short, long) = (Sides::in_memory(alloc), Sides::in_memory(alloc));
         BackedMap::over(alloc, short, long, layout, long_layout, seed)
@@ -62,6 +67,9 @@ impl BackedMap {
     ) -> Result<BackedMap, Refused>
         ensures empty { IfOk result (λ m. m.entries ≡ map.empty) }
         ensures ended { IfOk result (λ m. m.rest ≡ []) }
+        ensures many { most_heaps < layout.heaps → result ≡ Err NoPointer }
+        ensures shape { layout.heaps ≤ most_heaps → is_logs layout.logs ≡ false → result ≡ Err Shape }
+        ensures why { IfErr result (λ why. IsWhyNoWorker (λ w. w ≡ Memory) layout why ⊎ IsWhyNoWorker (λ w. w ≡ Memory) long_layout why) }
     {
         let (short, long) = (
             Sides::reserved(alloc, room),
@@ -81,6 +89,9 @@ impl BackedMap {
     ) -> Result<BackedMap, Refused>
         ensures empty { IfOk result (λ m. m.entries ≡ map.empty) }
         ensures ended { IfOk result (λ m. m.rest ≡ []) }
+        ensures many { most_heaps < layout.heaps → result ≡ Err NoPointer }
+        ensures shape { layout.heaps ≤ most_heaps → is_logs layout.logs ≡ false → result ≡ Err Shape }
+        ensures why { IfErr result (λ why. IsWhyNoWorker (λ w. w ≡ Memory) layout why ⊎ IsWhyNoWorker (λ w. w ≡ Memory) long_layout why) }
     {
         let short = match Worker::new(alloc, sides, layout, true) {
             Ok(worker) => worker,

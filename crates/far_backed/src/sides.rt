@@ -1,6 +1,7 @@
 //! What far objects lie in.
 
-ghost use Rattle.std.specs.Prelude.{true};
+ghost use Rattle.std.specs.Prelude.{◌≡◌, true};
+ghost use Rattle.far_word.specs.declared.refused.Refused.TheVariants.{Memory};
 
 use far_device::MemDevice;
 use far_file::FileDevice;
@@ -37,6 +38,8 @@ impl Sides {
 
 impl MakeDevice<Side> for Sides {
     ghost honest = { true };
+
+    ghost refuses = { λ why. why ≡ Memory };
 
     fn make(&mut self, _heap: u32) -> Result<Side, Refused> {
         let Some(room) = self.room else {

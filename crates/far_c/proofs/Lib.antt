@@ -1,5 +1,4 @@
 mod AsBox
 mod AsBoxMap
-mod Given
 mod Statuses
 mod Telling

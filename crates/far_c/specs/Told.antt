@@ -3,7 +3,8 @@ use Rattle.std.specs.Prelude.{◌≡◌, ◌⊎◌, ℤ, pos}
 use Rattle.far_word.specs.declared.refused.Refused.{Refused}
 use Rattle.far_word.specs.Refused.{refusal_number}
 use Rattle.far_word.specs.declared.sizes.TheConstants.{LONGEST}
-use Rattle.far_pool.specs.Plans.{IsUnplanned}
+use Rattle.far_pool.specs.Plans.{IsLaid, IsUnplanned}
+use Rattle.far_pool.specs.declared.plan.Layout.{Layout}
 use Rattle.far_pool.specs.declared.plan.Plan.{Plan}
 use Rattle.far_pool.specs.declared.plan.Unplanned.{Unplanned}
 use Rattle.far_pool.specs.declared.plan.Unplanned.TheVariants.{Length, Near, Objects}
@@ -23,9 +24,13 @@ unplanned_number (Near least) = pos 23
 abbrev pub IsUnlaid : Plan → ℤ → Type 0
 IsUnlaid plan status = (why : Unplanned) × (status ≡ unplanned_number why) × IsUnplanned plan why
 
--- why a worker wasn't opened: memory was refused, or its plan can't be laid out
+-- a plan can be laid out
+abbrev pub IsLayable : Plan → Type 0
+IsLayable plan = (l : Layout) × IsLaid plan l
+
+-- why a worker wasn't opened: its plan can't be laid out; else memory was refused
 abbrev pub IsWhyShut : Plan → ℤ → Type 0
-IsWhyShut plan status = (status ≡ pos 1) ⊎ IsUnlaid plan status
+IsWhyShut plan status = ((status ≡ pos 1) × IsLayable plan) ⊎ IsUnlaid plan status
 
 -- the plans of a map's two workers: of the entries that an object has room for, and of the others' values, whose objects have 4,088 bytes
 abbrev pub short_plan : FarMapPlan → Plan
@@ -34,6 +39,6 @@ short_plan p = record { near = p.near; objects = p.entries; typical = p.typical 
 abbrev pub long_plan : FarMapPlan → Plan
 long_plan p = record { near = p.long_near; objects = p.long_parts; typical = LONGEST }
 
--- why a map wasn't opened: memory was refused, or a plan of its workers can't be laid out
+-- why a map wasn't opened: the first plan of its workers can't be laid out; else the other can't; else memory was refused
 abbrev pub IsWhyNoMap : Plan → Plan → ℤ → Type 0
-IsWhyNoMap short long status = (status ≡ pos 1) ⊎ (IsUnlaid short status ⊎ IsUnlaid long status)
+IsWhyNoMap short long status = ((status ≡ pos 1) × IsLayable short × IsLayable long) ⊎ (IsUnlaid short status ⊎ (IsLayable short × IsUnlaid long status))

@@ -1,15 +1,16 @@
 //! Calls of a worker that is open.
 
-ghost use Rattle.std.specs.Prelude.{◌≡◌, ◌≢◌, ◌≤◌, ◌+◌, false, true, None, Some, IsSome, IfSome, is_some, length, pos, slice_range};
+ghost use Rattle.std.specs.Prelude.{◌≡◌, ◌≢◌, ◌≤◌, ◌+◌, ◌⊎◌, false, true, None, Some, IsSome, IfSome, is_some, length, pos, slice_range};
 ghost use Rattle.std.specs.Option.{IsSomeAnd};
 ghost use Rattle.far_word.specs.declared.refused.Refused.{Refused as Refusal};
 ghost use Rattle.far_word.specs.Refused.{refusal_number};
+ghost use Rattle.far_private.specs.Causes.{IsFault};
 ghost use Rattle.far_private.specs.Heap.{IsWhyNoAccess, is_length, new_object, object_with, size_of};
-ghost use Rattle.far_pool.specs.Pool.{Changes, IsWhyNone, Makes, NextGeneration, Same, Writes, count_in, len_at, refusal_of};
-ghost use Rattle.far_backed.specs.Named.{bytes_of, handle_of, object_of};
-ghost use Rattle.far_backed.specs.Sides.{IsNotGivenBy, IsNotTakenBy, IsStuckBy};
+ghost use Rattle.far_pool.specs.Pool.{Changes, IsWhyNone, Makes, NextGeneration, Same, Writes, count_in, refusal_of};
+ghost use Rattle.far_backed.specs.Named.{bytes_of, handle_of, most_heaps, object_of};
+ghost use Rattle.far_backed.specs.Sides.{IsNotTakenBy, IsStuckBy};
 ghost use Rattle.far_c.specs.Told.{IsToldBy};
-ghost use Rattle.far_c.specs.declared.status.TheConstants.{FAR_CLOSED, FAR_LENGTH, FAR_NOT_HELD, FAR_NO_ROOM, FAR_OK};
+ghost use Rattle.far_c.specs.declared.status.TheConstants.{FAR_CLOSED, FAR_LENGTH, FAR_MEMORY, FAR_NOT_HELD, FAR_NO_POINTER, FAR_NO_ROOM, FAR_OK};
 
 use crate::handle::{FarWorker, give, take_out};
 use crate::statistics::FarStatistics;
@@ -96,7 +97,7 @@ pub extern "C" fn far_read(
     ensures done { result ≡ FAR_OK → IsSomeAnd worker.old.held.pool (λ w. refusal_of (object_of w handle) from (length out.old) ≡ None) }
     ensures barred { IfSome worker.old.held.pool (λ w. (why : Refusal) → refusal_of (object_of w handle) from (length out.old) ≡ Some why → result ≡ pos (refusal_number why)) }
     ensures why { result ≢ FAR_OK → IfSome worker.old.held.pool (λ w. IsToldBy (IsWhyNoAccess w.honest (refusal_of (object_of w handle) from (length out.old))) result) }
-    ensures given { result ≢ FAR_OK → IfSome worker.old.held.pool (λ w. IsToldBy (IsNotGivenBy ⟦<Side as Device>⟧.reads (handle_of handle).pointer (len_at w (handle_of handle))) result) }
+    ensures fault { result ≢ FAR_OK → IfSome worker.old.held.pool (λ w. refusal_of (object_of w handle) from (length out.old) ≡ None → IsToldBy IsFault result) }
     ensures kept { result ≢ FAR_OK → out.new ≡ out.old }
     ensures closed { worker.old.held.pool ≡ None → result ≡ FAR_CLOSED }
 {
@@ -128,7 +129,6 @@ pub extern "C" fn far_write(
     ensures barred { IfSome worker.old.held.pool (λ w. (why : Refusal) → refusal_of (object_of w handle) from (length bytes.now) ≡ Some why → result ≡ pos (refusal_number why)) }
     ensures why { result ≢ FAR_OK → IfSome worker.old.held.pool (λ w. IsToldBy (IsWhyNoAccess w.honest (refusal_of (object_of w handle) from (length bytes.now))) result) }
     ensures room { result ≡ FAR_NO_ROOM → IfSome worker.old.held.pool (λ w. 3 ≤ w.logs → IsNotTakenBy ⟦<Side as Device>⟧.writes w (handle_of handle).heap) }
-    ensures given { result ≢ FAR_OK → IfSome worker.old.held.pool (λ w. IsToldBy (IsNotGivenBy ⟦<Side as Device>⟧.reads (handle_of handle).pointer (len_at w (handle_of handle))) result) }
     ensures closed { worker.old.held.pool ≡ None → result ≡ FAR_CLOSED }
 {
     match take_out(worker, alloc) {
@@ -249,6 +249,8 @@ pub extern "C" fn far_holds(alloc: Global, worker: &mut FarWorker, handle: u64) 
 pub extern "C" fn far_add_heap(alloc: Global, worker: &mut FarWorker) -> i32
     ensures added { result ≡ FAR_OK → IsSomeAnd worker.old.held.pool (λ w. IsSomeAnd worker.new.held.pool (λ v. Same w v × (length v.shelves ≡ length w.shelves + 1))) }
     ensures left { result ≢ FAR_OK → worker.new.held.pool ≡ worker.old.held.pool }
+    ensures full { IfSome worker.old.held.pool (λ w. length w.shelves ≡ most_heaps → result ≡ FAR_NO_POINTER) }
+    ensures why { result ≢ FAR_OK → IfSome worker.old.held.pool (λ w. ((result ≡ FAR_NO_POINTER) × (length w.shelves ≡ most_heaps)) ⊎ (result ≡ FAR_MEMORY)) }
     ensures closed { worker.old.held.pool ≡ None → result ≡ FAR_CLOSED }
 {
     match take_out(worker, alloc) {

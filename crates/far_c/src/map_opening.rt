@@ -1,8 +1,8 @@
 //! To open a map, and to close it.
 
-ghost use Rattle.std.specs.Prelude.{◌≡◌, ◌≢◌, [], None, Some, IsSome, IfErr, IfOk};
+ghost use Rattle.std.specs.Prelude.{◌≡◌, ◌≢◌, [], None, Some, IsSome, IfErr, IfOk, OnOk};
 ghost use Rattle.std.specs.FinMap as fin;
-ghost use Rattle.far_c.specs.Told.{IsWhyNoMap, long_plan, short_plan};
+ghost use Rattle.far_c.specs.Told.{IsLayable, IsWhyNoMap, long_plan, short_plan};
 ghost use Rattle.far_c.specs.declared.status.TheConstants.{FAR_CLOSED, FAR_MEMORY, FAR_OK, FAR_OPEN};
 
 use crate::map_handle::{FarMap, hold_map, take_map_out};
@@ -57,6 +57,7 @@ fn over(
 // The map of a plan, or its status.
 fn made(alloc: Global, plan: &FarMapPlan, rooms: Option<(usize, usize)>) -> Result<BackedMap, i32>
     ensures empty { IfOk result (λ m. m ≡ record { entries = fin.empty; rest = [] }) }
+    ensures laid { OnOk result (IsLayable (short_plan plan.now) × IsLayable (long_plan plan.now)) }
     ensures refused { IfErr result (λ status. status ≢ FAR_OK) }
     ensures why { IfErr result (IsWhyNoMap (short_plan plan.now) (long_plan plan.now)) }
 {
@@ -77,6 +78,7 @@ fn made(alloc: Global, plan: &FarMapPlan, rooms: Option<(usize, usize)>) -> Resu
 // Opens an empty map.
 fn open(alloc: Global, map: &mut FarMap, plan: &FarMapPlan, rooms: Option<(usize, usize)>) -> i32
     ensures opened { result ≡ FAR_OK → map.new.held.kept ≡ Some record { entries = fin.empty; rest = [] } }
+    ensures laid { result ≡ FAR_OK → IsLayable (short_plan plan.now) × IsLayable (long_plan plan.now) }
     ensures left { result ≢ FAR_OK → map.new.held.kept ≡ map.old.held.kept }
     ensures open { IsSome map.old.held.kept → result ≡ FAR_OPEN }
     ensures why { map.old.held.kept ≡ None → result ≢ FAR_OK → IsWhyNoMap (short_plan plan.now) (long_plan plan.now) result }
@@ -100,6 +102,7 @@ fn open(alloc: Global, map: &mut FarMap, plan: &FarMapPlan, rooms: Option<(usize
 #[unsafe(no_mangle)]
 pub extern "C" fn far_map_open_memory(alloc: Global, map: &mut FarMap, plan: &FarMapPlan) -> i32
     ensures opened { result ≡ FAR_OK → map.new.held.kept ≡ Some record { entries = fin.empty; rest = [] } }
+    ensures laid { result ≡ FAR_OK → IsLayable (short_plan plan.now) × IsLayable (long_plan plan.now) }
     ensures left { result ≢ FAR_OK → map.new.held.kept ≡ map.old.held.kept }
     ensures open { IsSome map.old.held.kept → result ≡ FAR_OPEN }
     ensures why { map.old.held.kept ≡ None → result ≢ FAR_OK → IsWhyNoMap (short_plan plan.now) (long_plan plan.now) result }
@@ -117,6 +120,7 @@ pub extern "C" fn far_map_open_reserved(
     long_room: usize,
 ) -> i32
     ensures opened { result ≡ FAR_OK → map.new.held.kept ≡ Some record { entries = fin.empty; rest = [] } }
+    ensures laid { result ≡ FAR_OK → IsLayable (short_plan plan.now) × IsLayable (long_plan plan.now) }
     ensures left { result ≢ FAR_OK → map.new.held.kept ≡ map.old.held.kept }
     ensures open { IsSome map.old.held.kept → result ≡ FAR_OPEN }
     ensures why { map.old.held.kept ≡ None → result ≢ FAR_OK → IsWhyNoMap (short_plan plan.now) (long_plan plan.now) result }

@@ -3,7 +3,7 @@
 ghost use Rattle.std.specs.Prelude.{◌≡◌, ◌≢◌, ◌≤◌, ◌<◌, ◌⊎◌, ℕ, true, false, None, IsSome, IfOk, IfErr, length};
 ghost use Rattle.std.specs.Option.{IsSomeAnd};
 ghost use Rattle.far_word.specs.declared.sizes.TheConstants.{LONGEST};
-ghost use Rattle.far_pool.specs.Plans.{IsLaid, least_near};
+ghost use Rattle.far_pool.specs.Plans.{HasLength, IsLaid, least_near};
 ghost use Rattle.far_pool.specs.declared.plan.Layout.{Layout as AnyLayout};
 ghost use Rattle.far_backed.specs.Named.{object_of};
 ghost use Rattle.far_c.specs.Told.{IsUnlaid, IsWhyShut};
@@ -160,6 +160,8 @@ pub extern "C" fn far_least_near(objects: u64, typical: u16, least: &mut u64) ->
     ensures length { result ≡ FAR_LENGTH → (typical ≡ 0) ⊎ (LONGEST < typical) }
     ensures objects { result ≡ FAR_OBJECTS → MOST_OBJECTS < objects }
     ensures others { result ≢ FAR_OK → (result ≡ FAR_LENGTH) ⊎ (result ≡ FAR_OBJECTS) }
+    ensures range { result ≢ FAR_LENGTH → HasLength record { near = 0; objects = objects; typical = typical } }
+    ensures most { result ≡ FAR_OK → objects ≤ MOST_OBJECTS }
 {
     if typical == 0 || typical > LONGEST {
         return FAR_LENGTH;

@@ -15,6 +15,9 @@ pub const FAR_MEMORY: i32 = 1;
 /// Nothing near can leave: memory is refused, or the far side is full.
 pub const FAR_NO_ROOM: i32 = 2;
 
+/// Each heap has its 2,048 objects, or there are as many heaps as may be.
+pub const FAR_NO_POINTER: i32 = 3;
+
 /// A length is none that an object has: 1 to 4,088.
 pub const FAR_LENGTH: i32 = 4;
 

@@ -2,6 +2,7 @@ mod Counting
 mod Counts
 mod Growing
 mod Histories
+mod Layouts
 mod Numbering
 mod Rooms
 mod Shelves

@@ -1,6 +1,6 @@
 -- A worker's objects by its heaps: what a call of one heap leaves of all.
-use Rattle.std.proofs.Common.{◌≡◌, ◌<◌, ◌+◌, ℕ, zero, suc, Bool, true, Option, Some, None, Result, Ok, Err, is_some, List, length, replicate, refl, ap, sym, subst, ◌∙◌}
-use Rattle.std.specs.Prelude.{IfSome, slice_range, slice_set, slice_index_or, OnOk}
+use Rattle.std.proofs.Common.{◌≡◌, ◌<◌, ◌+◌, ℕ, zero, suc, Bool, true, false, Option, Some, None, Result, Ok, Err, is_some, List, [], length, replicate, refl, ap, sym, subst, ◌∙◌}
+use Rattle.std.specs.Prelude.{◌==◌, if◌then◌else◌, IfSome, slice_range, slice_set, slice_index_or, OnOk}
 use Rattle.std.specs.Option.{option_map}
 use Rattle.std.proofs.lemmas.List.{get_or_read}
 use Rattle.far_word.specs.declared.refused.Refused.{Refused}
@@ -11,6 +11,14 @@ use Rattle.far_pool.proofs.Shelves.{drops, drops_next, found_free, puts, puts_sa
 
 abbrev pub pool : Bool → ℕ → List Shelf → Pool
 pool b l shelves = record { honest = b; logs = l; shelves = shelves }
+
+neither : (b : Bool) → ◌≡◌ {A = Option Object} (if b then None else None) None
+neither true = refl
+neither false = refl
+
+-- a worker that has no heap has no object
+pub none_at : (b : Bool) (l : ℕ) (h : Handle) → at (pool b l []) h ≡ None
+none_at b l h = neither (0 == h.generation)
 
 zeros_from : (n p : ℕ) → ◌≡◌ {A = ℕ} (slice_index_or (replicate n 0) p 0) 0
 zeros_from zero p = refl

@@ -19,8 +19,15 @@ least_logs typical = 2 + (size_of typical + 63) / 64
 abbrev pub least_near : Plan → ℕ
 least_near p = heaps_for p.objects * least_logs p.typical * LOG
 
--- a plan is so laid out: there are pointers for all its objects, and no more bytes of logs than it has; a heap has room for a few objects
+-- most of its objects have a length that an object may have
+abbrev pub HasLength : Plan → Type 0
+HasLength p = (0 < p.typical) × (p.typical ≤ LONGEST)
+
+-- a plan is so laid out: its numbers are in range; there are pointers for all its objects, and no more bytes of logs than it has; a heap has room for a few objects
 pub record IsLaid (p : Plan) (l : Layout) : Type 0 where
+  pub length : HasLength p
+  pub range : p.objects ≤ MOST_OBJECTS
+  pub enough : least_near p ≤ p.near
   pub objects : p.objects ≤ l.heaps * POINTERS
   pub near : l.heaps * l.logs * LOG ≤ p.near
   pub least : least_logs p.typical ≤ l.logs
@@ -28,11 +35,20 @@ pub record IsLaid (p : Plan) (l : Layout) : Type 0 where
   pub three : 3 ≤ l.logs
   pub most : l.logs ≤ MOST_LOGS
   pub heaps : 0 < l.heaps
+  pub most_heaps : l.heaps ≤ MOST_HEAPS
+  -- as few as have pointers for all, or all that so many bytes fill
+  pub few : (l.heaps ≡ heaps_for p.objects) ⊎ (l.heaps * MOST_LOGS * LOG ≤ p.near)
   -- a log more for each heap would be too much, or a heap has as many as it may, and one more would be too much
-  pub full : (p.near < l.heaps * (l.logs + 1) * LOG) ⊎ ((l.logs ≡ MOST_LOGS) × ((p.near < (l.heaps + 1) * MOST_LOGS * LOG) ⊎ (l.heaps ≡ MOST_HEAPS)))
+  pub full : ((l.logs < MOST_LOGS) × (p.near < l.heaps * (l.logs + 1) * LOG)) ⊎ ((l.logs ≡ MOST_LOGS) × ((p.near < (l.heaps + 1) * MOST_LOGS * LOG) ⊎ (l.heaps ≡ MOST_HEAPS)))
 
--- why it isn't
+-- why it isn't: the first of three causes
 abbrev pub IsUnplanned : Plan → Unplanned → Type 0
 IsUnplanned p Length = (p.typical ≡ 0) ⊎ (LONGEST < p.typical)
-IsUnplanned p (Objects most) = (most ≡ MOST_OBJECTS) × (MOST_OBJECTS < p.objects)
-IsUnplanned p (Near least) = (least ≡ least_near p) × (p.near < least)
+IsUnplanned p (Objects most) = HasLength p × (most ≡ MOST_OBJECTS) × (MOST_OBJECTS < p.objects)
+IsUnplanned p (Near least) = HasLength p × (p.objects ≤ MOST_OBJECTS) × (least ≡ least_near p) × (p.near < least)
+
+-- a plan has one layout, or none and one cause
+pub record PlansAreDecided : Type 0 where
+  pub one : (p : Plan) (l m : Layout) → IsLaid p l → IsLaid p m → l ≡ m
+  pub one_cause : (p : Plan) (v w : Unplanned) → IsUnplanned p v → IsUnplanned p w → v ≡ w
+  pub either : (p : Plan) (l : Layout) (why : Unplanned) → IsLaid p l → IsUnplanned p why → ⊥

@@ -1,12 +1,14 @@
 -- A worker's objects by their handles: all that a user of a worker need know.
-use Rattle.std.specs.Prelude.{◌≡◌, ◌≢◌, ℕ, zero, suc, ◌+◌, ◌*◌, ◌%◌, ◌==◌, ◌<◌, ◌≤◌, Bool, true, false, ◌&&◌, nat_lt, nat_le, Option, Some, None, is_some, filter, IfSome, List, [], length, slice_set, slice_index_or, slice_range, if◌then◌else◌}
+use Rattle.std.specs.Prelude.{◌≡◌, ◌≢◌, ◌⊎◌, ℕ, zero, suc, ◌+◌, ◌*◌, ◌%◌, ◌==◌, ◌<◌, ◌≤◌, Bool, true, false, ◌&&◌, nat_lt, nat_le, Option, Some, None, is_some, filter, IfSome, List, [], length, slice_set, slice_index_or, slice_range, if◌then◌else◌}
 use Rattle.std.specs.Option.{option_map}
 use Rattle.far_word.specs.declared.refused.Refused.{Refused}
-use Rattle.far_word.specs.declared.refused.Refused.TheVariants.{EpochsSpent, Length, NoPointer, NoRoom, NotHeld, Range}
+use Rattle.far_word.specs.declared.refused.Refused.TheVariants.{EpochsSpent, Length, Memory, NoPointer, NoRoom, NotHeld, Range, Shape}
 use Rattle.far_word.specs.declared.sizes.TheConstants.{POINTERS}
-use Rattle.far_private.specs.Heap.{IsOutside, is_length}
+use Rattle.far_private.specs.Heap.{IsOutside, is_length, is_logs}
 use Rattle.far_private.specs.Objects.{Object, bytes_of, len_of, rewritten}
 use Rattle.far_pool.specs.declared.handle.Handle.{Handle}
+use Rattle.far_pool.specs.declared.plan.Layout.{Layout}
+use Rattle.far_pool.specs.declared.worker.TheConstants.{MOST_HEAPS}
 
 -- a heap: whether its far side is honest, of how many logs it is, and of each pointer the object, none where it is free, and how often one was dropped, up to 65,535 and then from 0 on
 pub record Shelf : Type 0 where
@@ -133,6 +135,14 @@ IsWhyNone len NoPointer = is_length len ≡ true
 IsWhyNone len NoRoom = is_length len ≡ true
 IsWhyNone len EpochsSpent = is_length len ≡ true
 IsWhyNone len why = ⊥
+
+-- why no heap was added to so many: a worker may have no more; memory was refused, or as the maker of devices refuses
+abbrev pub IsWhyNoHeap : (Refused → Type 0) → ℕ → Refused → Type 0
+IsWhyNoHeap refuses heaps why = ((why ≡ NoPointer) × (heaps ≡ MOST_HEAPS)) ⊎ ((why ≡ Memory) ⊎ refuses why)
+
+-- why no worker was made: it would have too many heaps; else heaps of too few or too many logs; else memory was refused, or as the maker of devices refuses
+abbrev pub IsWhyNoWorker : (Refused → Type 0) → Layout → Refused → Type 0
+IsWhyNoWorker refuses l why = ((why ≡ NoPointer) × (MOST_HEAPS < l.heaps)) ⊎ (((why ≡ Shape) × (l.heaps ≤ MOST_HEAPS) × (is_logs l.logs ≡ false)) ⊎ ((why ≡ Memory) ⊎ refuses why))
 
 -- ---- what is true of each worker: all heaps are as honest as it is, and of as many logs as it has
 pub record IsAlike (b : Bool) (l : ℕ) (s : Shelf) : Type 0 where

@@ -46,6 +46,7 @@ impl<D: Device + Drop> Counted<D> {
         ensures zero { IfOk result (λ c. (p : ℕ) → generation_on c p ≡ 0) }
         ensures honest { IfOk result (λ c. c.honest ≡ heap.honest) }
         ensures logs { IfOk result (λ c. c.logs ≡ heap.logs) }
+        ensures why { IfErr result (λ why. why ≡ Memory) }
     {
         let Ok(generations) = vec![in alloc; 0u16; POINTERS as usize] else {
             return Err(Refused::Memory);

@@ -1,6 +1,7 @@
 //! Devices of a worker's heaps: in memory, or over one file.
 
-ghost use Rattle.std.specs.Prelude.{true, false};
+ghost use Rattle.std.specs.Prelude.{◌≡◌, true, false};
+ghost use Rattle.far_word.specs.declared.refused.Refused.TheVariants.{Memory};
 
 use crate::maker::MakeDevice;
 use far_device::MemDevice;
@@ -25,6 +26,8 @@ impl MemDevices {
 
 impl MakeDevice<MemDevice> for MemDevices {
     ghost honest = { true };
+
+    ghost refuses = { λ why. ⊥ };
 
     fn make(&mut self, _heap: u32) -> Result<MemDevice, Refused> {
         Ok(MemDevice::new(self.alloc))
@@ -65,6 +68,8 @@ impl FileDevices {
 
 impl MakeDevice<FileDevice<FilePart>> for FileDevices {
     ghost honest = { false };
+
+    ghost refuses = { λ why. why ≡ Memory };
 
     fn make(&mut self, _heap: u32) -> Result<FileDevice<FilePart>, Refused> {
         match self.file.device::<NoSeal>(self.alloc) {

@@ -2,6 +2,7 @@
 
 ghost use Rattle.far_pool.specs.Generations.{DroppedStaysRefused};
 ghost use Rattle.far_pool.specs.History.{OthersStay, ReadsGiveLastWrites};
+ghost use Rattle.far_pool.specs.Plans.{PlansAreDecided};
 ghost use Rattle.far_pool.specs.Rooms.{HasRoom};
 
 use far_device::Device;
@@ -24,4 +25,9 @@ pub fn others_stay()
 /// Where devices take all that they are given, a worker of three logs a heap or more never answers that it has no room.
 pub fn takers_have_room<D: Device + Drop>()
     ensures { HasRoom D D.writes }
+{}
+
+/// A plan has one layout, or none and one cause.
+pub fn plans_are_decided()
+    ensures { PlansAreDecided }
 {}

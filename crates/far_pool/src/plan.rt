@@ -98,7 +98,7 @@ impl Plan {
 
     /// How many heaps of how many logs it comes to.
     ///
-    /// Refused, in this order: [`Unplanned::Length`], [`Unplanned::Objects`], and [`Unplanned::Near`] with the fewest bytes that would do.
+    /// Refused, in this order, and only then: [`Unplanned::Length`], [`Unplanned::Objects`], and [`Unplanned::Near`] with the fewest bytes that would do.
     pub fn lay_out(&self) -> Result<Layout, Unplanned>
         ensures laid { IfOk result (IsLaid self.now) }
         ensures refused { IfErr result (IsUnplanned self.now) }
@@ -125,7 +125,9 @@ fn share(least: u64, all: u64) -> Layout
     ensures heaps { least ≤ result.heaps }
     ensures logs { (n : ℕ) → n ≤ MOST_LOGS → least * n ≤ all → n ≤ result.logs }
     ensures most { result.logs ≤ MOST_LOGS }
-    ensures full { (all < result.heaps * (result.logs + 1)) ⊎ ((result.logs ≡ MOST_LOGS) × ((all < (result.heaps + 1) * MOST_LOGS) ⊎ (result.heaps ≡ MOST_HEAPS))) }
+    ensures most_heaps { result.heaps ≤ MOST_HEAPS }
+    ensures few { (result.heaps ≡ least) ⊎ (result.heaps * MOST_LOGS ≤ all) }
+    ensures full { ((result.logs < MOST_LOGS) × (all < result.heaps * (result.logs + 1))) ⊎ ((result.logs ≡ MOST_LOGS) × ((all < (result.heaps + 1) * MOST_LOGS) ⊎ (result.heaps ≡ MOST_HEAPS))) }
 {
     let heaps = least.max((all / 64).min(MOST_HEAPS));
     let logs = (all / heaps).min(MOST_LOGS as u64);

@@ -1,6 +1,6 @@
 //! Heaps that one thread wholly owns, by handles.
 
-ghost use Rattle.std.specs.Prelude.{◌≡◌, ◌<◌, ◌+◌, ◌≤◌, ℕ, List, true, false, None, Some, Err, length, slice_range, IfOk, IfErr, IfSome, OnErr, OnOk, vec_len, []};
+ghost use Rattle.std.specs.Prelude.{◌≡◌, ◌<◌, ◌+◌, ◌≤◌, ◌⊎◌, ℕ, List, true, false, None, Some, Err, length, slice_range, IfOk, IfErr, IfSome, OnErr, OnOk, vec_len, []};
 ghost use Rattle.std.specs.Fn.{FnOnceReturnsAtMut, FnOnceTakesAtMut};
 ghost use Rattle.std.specs.Vec.{vec_capacity};
 ghost use Rattle.far_word.specs.declared.refused.Refused.{Refused as Refusal};
@@ -8,7 +8,7 @@ ghost use Rattle.far_word.specs.declared.refused.Refused.TheVariants.{Length, Me
 ghost use Rattle.far_private.specs.Causes.{IsFault, IsNotGiven};
 ghost use Rattle.far_private.specs.Heap.{IsWell, IsWhyNoAccess, is_length, is_logs, new_object, object_with, size_of, structure_of};
 ghost use Rattle.far_pool.specs.declared.handle.Handle.{Handle as AnyHandle};
-ghost use Rattle.far_pool.specs.Pool.{Changes, IsWhyNone, IsWhyNotWhole, Makes, NextGeneration, Same, Updates, Writes, at, bytes_at, generation_in, generation_on, has, len_at, object_on, refusal_of};
+ghost use Rattle.far_pool.specs.Pool.{Changes, IsWhyNoHeap, IsWhyNoWorker, IsWhyNone, IsWhyNotWhole, Makes, NextGeneration, Same, Updates, Writes, at, bytes_at, generation_in, generation_on, has, len_at, object_on, refusal_of};
 ghost use Rattle.far_pool.specs.Rooms.{IsNotTaken, IsStuck};
 ghost use Rattle.far_pool.specs.Numbers.{IsOfHeaps};
 ghost use Rattle.far_pool.specs.declared.worker.TheConstants.{MOST_HEAPS};
@@ -55,13 +55,14 @@ pub struct Worker<D: Device + Drop, M: MakeDevice<D> + Drop> {
 impl<D: Device + Drop, M: MakeDevice<D> + Drop> Model for Worker<D, M> {
     ghost use Rattle.std.specs.Prelude.{◌≡◌, ◌≤◌, length, true};
     ghost use Rattle.far_pool.specs.declared.worker.TheConstants.{MOST_HEAPS};
+    ghost use Rattle.far_private.specs.Heap.{is_logs};
     ghost use Rattle.far_pool.specs.Pool.{AreAlike, Pool};
 
     ghost Value = { Pool };
 
     ghost view = { λ w. record { honest = w.parts.honest; logs = w.parts.logs; shelves = w.parts.shelves.items } };
 
-    ghost invariant = { λ w. AreAlike w.parts.honest w.parts.logs w.parts.shelves.items × (w.parts.honest ≡ true → M.honest ≡ true) × (length w.parts.shelves.items ≤ MOST_HEAPS) };
+    ghost invariant = { λ w. AreAlike w.parts.honest w.parts.logs w.parts.shelves.items × (w.parts.honest ≡ true → M.honest ≡ true) × (length w.parts.shelves.items ≤ MOST_HEAPS) × (is_logs w.parts.logs ≡ true) };
 }
 
 impl<D: Device + Drop, M: MakeDevice<D> + Drop> Worker<D, M> {
@@ -84,6 +85,7 @@ impl<D: Device + Drop, M: MakeDevice<D> + Drop> Worker<D, M> {
         ensures heaps { IfOk result (λ worker. length worker.shelves ≡ layout.heaps) }
         ensures many { MOST_HEAPS < layout.heaps → result ≡ Err NoPointer }
         ensures shape { layout.heaps ≤ MOST_HEAPS → is_logs layout.logs ≡ false → result ≡ Err Shape }
+        ensures why { IfErr result (IsWhyNoWorker M.refuses layout) }
     {
         if layout.heaps > MOST_HEAPS {
             return Err(Refused::NoPointer);
@@ -103,7 +105,8 @@ impl<D: Device + Drop, M: MakeDevice<D> + Drop> Worker<D, M> {
 
     // A worker that has no heap.
     fn without_heaps(alloc: Global, maker: M, logs: u64, honest: bool) -> Worker<D, M>
-        requires { honest ≡ true → M.honest ≡ true }
+        requires honest { honest ≡ true → M.honest ≡ true }
+        requires shape { is_logs logs ≡ true }
         ensures empty { (h : AnyHandle) → at result h ≡ None }
         ensures zero { (h : AnyHandle) → generation_in result h ≡ 0 }
         ensures honest { result.honest ≡ honest }
@@ -131,6 +134,7 @@ impl<D: Device + Drop, M: MakeDevice<D> + Drop> Worker<D, M> {
         ensures more { IfOk result (λ heap. (heap ≡ length self.old.shelves) × (length self.new.shelves ≡ length self.old.shelves + 1)) }
         ensures refused { OnErr result (self.new ≡ self.old) }
         ensures full { length self.old.shelves ≡ MOST_HEAPS → result ≡ Err NoPointer }
+        ensures why { IfErr result (IsWhyNoHeap M.refuses (length self.old.shelves)) }
     {
         let Ok(number) = u32::try_from(self.parts.shelves.len()) else {
             return Err(Refused::NoPointer);
@@ -151,6 +155,7 @@ impl<D: Device + Drop, M: MakeDevice<D> + Drop> Worker<D, M> {
         ensures zero { IfOk result (λ c. (p : ℕ) → generation_on c p ≡ 0) }
         ensures honest { IfOk result (λ c. c.honest ≡ self.old.honest) }
         ensures logs { IfOk result (λ c. c.logs ≡ self.old.logs) }
+        ensures why { IfErr result (λ why. (why ≡ Memory) ⊎ M.refuses why) }
     {
         let device = match self.parts.maker.make(number) {
             Ok(device) => device,
@@ -179,6 +184,7 @@ impl<D: Device + Drop, M: MakeDevice<D> + Drop> Worker<D, M> {
         ensures same { Same self.old self.new }
         ensures more { IfOk result (λ heap. (heap ≡ length self.old.shelves) × (length self.new.shelves ≡ length self.old.shelves + 1)) }
         ensures refused { OnErr result (self.new ≡ self.old) }
+        ensures why { IfErr result (λ why. why ≡ Memory) }
     {
         // There is room for all heaps then, so that none is left out where a drop puts it back.
         let Ok(()) = self.parts.open.reserve(number as usize + 1) else {

@@ -42,6 +42,8 @@ struct ClosedDevices {
 impl MakeDevice<FileDevice<Closed>> for ClosedDevices {
     ghost honest = { false };
 
+    ghost refuses = { λ why. Unit {0} };
+
     fn make(&mut self, heap: u32) -> Result<FileDevice<Closed>, Refused> {
         if heap >= self.most {
             return Err(Refused::Device);
@@ -197,6 +199,8 @@ struct FailingDevices {
 
 impl MakeDevice<FileDevice<Failing>> for FailingDevices {
     ghost honest = { false };
+
+    ghost refuses = { λ why. Unit {0} };
 
     fn make(&mut self, _heap: u32) -> Result<FileDevice<Failing>, Refused> {
         Ok(FileDevice::<Failing>::new(

@@ -45,6 +45,8 @@ struct ShutDevices {
 impl MakeDevice<FileDevice<Shut>> for ShutDevices {
     ghost honest = { false };
 
+    ghost refuses = { λ why. Unit {0} };
+
     fn make(&mut self, heap: u32) -> Result<FileDevice<Shut>, Refused> {
         let shut = Shut {
             bytes: MemStorage::new(self.alloc),

@@ -18,6 +18,7 @@ invariant_of-self-in-Ok-push g c =
       subst (λ xs. AreAlike b l xs) (sym is) (alike_more b l shelves n c.self.invariant.0 record { honest = honest; logs = logs }),
       c.self.invariant.1,
       subst (λ xs. length xs ≤ MOST_HEAPS) (sym is) (few_more b l shelves n few),
+      c.self.invariant.3,
     )
 
 pub returns-clause-same : goal.returns-clause-same
@@ -33,4 +34,5 @@ invariant_of-self-in_default-push g c =
       subst (λ xs. AreAlike c.self.inside.parts.honest c.self.inside.parts.logs xs) (sym is) c.self.invariant.0,
       c.self.invariant.1,
       subst (λ xs. length xs ≤ MOST_HEAPS) (sym is) c.self.invariant.2,
+      c.self.invariant.3,
     )
