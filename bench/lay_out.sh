@@ -1,6 +1,6 @@
 #!/usr/bin/env bash
 # Lays out a copy of the repository in which the programs that measure are crates too. Here they aren't (each file has `.in` behind
-# its name): the gate would prove them anew each time, for a sixth of its cost, and no figure is a proof. A file with `.same` behind its
+# its name): the gate would prove them anew each time, and no figure is a proof. A file with `.same` behind its
 # name has the text of another, whose path from bench/programs it tells.
 #
 #     bench/lay_out.sh FOLDER     a folder that isn't there yet

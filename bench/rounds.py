@@ -6,7 +6,9 @@ usage: rounds.py PROGRAM TWIN     each a command, as 'twin --stage 10'
 First a text of just under 1 MiB: rounds over a thousand objects of which some are near, some hot and some far. Both programs run under callgrind,
 their outputs are compared, and the ratio of their instructions is printed. Then the instructions of one line `round oldest 1 1000`, a text with it
 less the same text without it, as one number of the heap grows: they are to be linear in the live objects of the chosen log, and nearly independent of
-all else. Last the instructions of PROGRAM for a round that sends the objects of a log far again, as they came and written since. Ends with 1 where outputs differ or the ratio is above the goal, BAR. It needs valgrind.
+all else. Of far objects no number is a power of two: there the row of slots of `MemDevice` is full, and the first object that leaves makes it twice as
+long, so what is there is copied, 32 bytes a slot, each an instruction to callgrind. Last the instructions of PROGRAM for a round that sends the objects
+of a log far again, as they came and written since. Ends with 1 where outputs differ or the ratio is above the goal, BAR. It needs valgrind.
 """
 import random
 import re
@@ -21,7 +23,7 @@ SERIES = [
     ("live objects of the chosen log, moved", "chosen", (0, 16, 32, 48, 64), {"hot": True}),
     ("other sealed logs", "logs", (1, 4, 16, 48), {}),
     ("live objects of 12 other logs", "others", (0, 192, 384, 768), {"logs": 12}),
-    ("objects that are far", "far", (0, 64, 256, 512), {}),
+    ("objects that are far", "far", (0, 192, 320, 448), {}),
     (f"mutators, of {CELLS} cells each", "mutators", (1, 2, 4, 8), {}),
 ]
 

@@ -4,12 +4,14 @@
 
 #include <errno.h>
 #include <fcntl.h>
+#include <linux/magic.h>
 #include <pthread.h>
 #include <stdatomic.h>
 #include <stdio.h>
 #include <stdlib.h>
 #include <string.h>
 #include <sys/mman.h>
+#include <sys/vfs.h>
 #include <unistd.h>
 
 #define HIDDEN __attribute__((visibility("hidden")))
@@ -104,6 +106,14 @@ static int forks_refused;
 
 static void see_forks(void) { forks_refused = pthread_atfork(NULL, NULL, keep_places); }
 
+/* How many bytes are mapped for so many of a file: whole ones of its pages, which may be huge. */
+static uint64_t in_pages(int fd, uint64_t bytes) {
+    struct statfs told;
+    if (fstatfs(fd, &told) != 0 || told.f_type != HUGETLBFS_MAGIC) return bytes;
+    uint64_t page = (uint64_t)told.f_bsize;
+    return (bytes + page - 1) / page * page;
+}
+
 /* Takes bytes of a file, so that no write to them can fail for want of room, and lends them. */
 static int32_t lend(int fd, uint64_t bytes, size_t each, size_t more_each) {
     if (bytes > INT64_MAX) return errno = EFBIG, FAR_FILE;
@@ -114,15 +124,16 @@ static int32_t lend(int fd, uint64_t bytes, size_t each, size_t more_each) {
     if (why != 0) return errno = why, FAR_FILE;
     struct region *region = take_region();
     if (region == NULL) return errno = EMFILE, FAR_FILE;
-    void *at = mmap(NULL, bytes, PROT_READ | PROT_WRITE, MAP_SHARED, fd, 0);
+    uint64_t all = in_pages(fd, bytes);
+    void *at = mmap(NULL, all, PROT_READ | PROT_WRITE, MAP_SHARED, fd, 0);
     if (at == MAP_FAILED) {
         atomic_store(&region->taken, false);
         return FAR_FILE;
     }
-    madvise(at, bytes, MADV_RANDOM);
-    madvise(at, bytes, MADV_DONTFORK);
+    madvise(at, all, MADV_RANDOM);
+    madvise(at, all, MADV_DONTFORK);
     atomic_store(&region->parts, 1);
-    set_region(region, (uintptr_t)at, (uintptr_t)at + bytes);
+    set_region(region, (uintptr_t)at, (uintptr_t)at + all);
     lent.at = (uintptr_t)at, lent.end = lent.at + bytes, lent.each[0] = each, lent.each[1] = more_each, lent.region = region;
     return FAR_OK;
 }

@@ -243,6 +243,11 @@ def faults(program: str, library: str) -> None:
     ):
         came = run(program, *words, text=TEXT)
         expect(f"words {words}", came[:2] == (1, printed) and re.fullmatch(told, came[2]) is not None, came)
+    folder = os.open("folder", os.O_RDONLY)
+    ran = subprocess.run([program], stdin=folder, stdout=subprocess.PIPE, stderr=subprocess.PIPE, timeout=LONGEST, check=False, env={**os.environ, "TMPDIR": "."})
+    os.close(folder)
+    said = ran.stderr.decode()
+    expect("standard input is a folder", ran.returncode == 1 and not ran.stdout and said.startswith("far_uniq: standard input: can't be read at line 1: Is a directory"), (ran.returncode, ran.stdout, said))
     came = run(program, text=TEXT, TMPDIR="none")
     expect("a TMPDIR that isn't there", came[:2] == (1, b"") and re.fullmatch(told, came[2]) is not None, came)
     came = run(program, text=TEXT, TMPDIR="no text \udcff")

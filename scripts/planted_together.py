@@ -30,7 +30,7 @@ from edits import folder_of, is_test, planted
 ROOT = pathlib.Path(__file__).resolve().parent.parent
 FUNCTION = re.compile(r"^( *)(?:pub(?:\([^)]*\))? +)?(?:const +)?(?:unsafe +)?(?:extern +\S+ +)?fn +(\w+)", re.M)
 OPENS = re.compile(
-    r"^(?:unsafe +)?impl(?:<(?:[^<>]|<[^<>]*>)*>)? +(?:(?P<trait>[\w:]+)(?:<(?P<of>\w*).*>)? +for +)?(?P<type>\w+)|^(?:pub +)?trait +(?P<own>\w+)|^\}", re.M
+    r"^(?:unsafe +)?impl(?:<(?P<params>(?:[^<>]|<[^<>]*>)*)>)? +(?:(?P<trait>[\w:]+)(?:<(?P<of>\w*).*>)? +for +)?(?P<type>\w+)(?:<(?P<at>[\w, ]*)>)?|^(?:pub +)?trait +(?P<own>\w+)|^\}", re.M
 )
 NAMES = re.compile(r"has no field|is not in scope|has no `|was not admitted")
 
@@ -70,7 +70,14 @@ def function_at(file, text, at):
         return None
     block = [it for it in OPENS.finditer(text, 0, last.start())][-1:]
     kind = "".join((block[0][it] or "").split("::")[-1] for it in ("own", "type", "trait", "of")) if block else ""
-    return file, kind[:1].upper() + kind[1:], last[2]
+    return file, kind[:1].upper() + kind[1:] + (at_of(block[0]) if block else ""), last[2]
+
+
+def at_of(block):
+    """Returns how the name of a type's block goes on where it is written at one type, as `impl<D> Book<Plain, D>`."""
+    words = [it.strip() for it in (block["at"] or "").split(",") if it.strip()]
+    free = set(re.findall(r"(?:^|,)\s*(?:const +)?(\w+)", block["params"] or ""))
+    return "" if block["trait"] or set(words) <= free else "".join(f"+{it}" for it in words)
 
 
 def path_of(file, kind, name):
@@ -109,8 +116,8 @@ def checked(crate, group, over):
 
 
 def owed(said):
-    """Returns what each function that is not proved owes by itself: its goals, and the errors of its proof files."""
-    goals, errors, notes = {}, {}, []
+    """Returns what each function that is not proved owes by itself: its goals, the errors of its proof files, and why its contract isn't read."""
+    goals, errors, unread, notes = {}, {}, {}, []
     for line in said.split("\n"):
         if wrong := re.match(r"(?:\./)?proofs/(\S+)/\w+\.antt:\d+:\d+: error: (.*)", line):
             errors.setdefault(wrong[1], []).append(wrong[2])
@@ -119,8 +126,10 @@ def owed(said):
             notes += [it + limit for it in re.findall(r"\(`(\S+)`\)", line)]
         elif function := re.match(r"fn (\S+): (.*)", line):
             goals[function[1]], notes = notes, []
+            if function[2].startswith("no proof"):
+                unread[function[1]] = function[2]
     return {
-        symbol: (found, errors.get("/".join(symbol.split("::")[1:]), []))
+        symbol: (found, errors.get("/".join(symbol.split("::")[1:]), []), unread.get(symbol))
         for symbol, found in goals.items()
     }
 
@@ -129,8 +138,10 @@ def verdict(edit, owing):
     """Returns whether an edit is refused, and by what."""
     goals, errors, is_read = [], [], False
     for function in edit.functions:
-        for symbol, (found, wrong) in owing.items():
+        for symbol, (found, wrong, unread) in owing.items():
             if symbol.endswith("::" + path_of(*function)):
+                if unread and not found and not wrong:
+                    return False, f"NOT READ: {unread[:100]}"
                 goals, errors, is_read = goals + found, errors + wrong, True
     real = [it for it in errors if not NAMES.search(it)]
     if goals or real:

@@ -79,7 +79,7 @@ REFUSE=1 launch 'a refused proof' 1 'lib far_evac,lib far_text' "$launcher"
 tells 'fn far_evac::f: not proved'
 rm "$(sed -n 's/.*; its log is //p' "$work/err")"
 launch 'a run without a proof' 0 'try far_trace' "$tree/scripts/try"
-tells 'try: far_trace is being compiled without a proof, for some half a minute'
+tells 'try: far_trace is being compiled without a proof, for about a minute'
 WORDS='split' launch 'one with split' 0 'try far_trace' "$tree/scripts/try" split
 launch 'one that ends badly' 1 'try far_trace' "$tree/scripts/try" split
 launch 'another argument of try' 2 '' "$tree/scripts/try" splitx

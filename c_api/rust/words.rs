@@ -100,6 +100,59 @@ fn handles(folder: &Path) -> Result<(), Error> {
     Ok(())
 }
 
+/// In what order keys are told that a map with this seed has.
+fn order(seed: [u64; 2]) -> Result<Vec<Vec<u8>>, Error> {
+    let plan = MapPlan { near_bytes: 1 << 17, entries: 100, typical: 8, long_near_bytes: least_near(1, 4088)?, long_parts: 1, seed };
+    let (mut map, mut keys) = (Map::in_memory(plan)?, Vec::new());
+    for key in 0..100 {
+        map.put(&[key], b"")?;
+    }
+    map.for_each(|key, _| {
+        keys.push(key.to_vec());
+        true
+    })?;
+    Ok(keys)
+}
+
+/// Parts of long values have the file's second bytes: there is room for many, and not for as many entries.
+fn sides(folder: &Path) -> Result<(), Error> {
+    let plan = MapPlan { near_bytes: 1 << 17, entries: 2048, typical: 1000, long_near_bytes: 1 << 17, long_parts: 500, seed: [3, 5] };
+    let mut map = Map::in_folder(plan, folder, 1 << 16, 1 << 22)?;
+    map.put(b"long", &[7; 1 << 20])?;
+    let mut refused = Ok(());
+    for key in 0..1000u16 {
+        refused = refused.and(map.put(&key.to_le_bytes(), &[7; 1000]));
+    }
+    assert_eq!(refused, Err(Error::NoRoom));
+    Ok(())
+}
+
+/// Bytes of files that are in memory, and mapped to be written.
+fn resident() -> u64 {
+    let (mut all, mut counts) = (0, false);
+    for line in std::fs::read_to_string("/proc/self/smaps").unwrap().lines() {
+        let mut words = line.split_whitespace();
+        match words.next() {
+            Some("Rss:") if counts => all += words.next().unwrap().parse::<u64>().unwrap() * 1024,
+            Some(word) if !word.ends_with(':') => counts = words.next() == Some("rw-s"),
+            _ => {}
+        }
+    }
+    all
+}
+
+/// What is resident of a file is given back.
+fn trims(folder: &Path) -> Result<(), Error> {
+    let mut worker = Worker::in_folder(1 << 17, 1000, 4000, folder, 1 << 20)?;
+    for _ in 0..200 {
+        worker.alloc(&[7; 4000], 1)?;
+    }
+    let most = resident();
+    worker.trim();
+    assert!(most > 1 << 19 && resident() == 0);
+    Ok(())
+}
+
 /// How many files are mapped to be written.
 fn mapped() -> usize {
     std::fs::read_to_string("/proc/self/maps").unwrap().matches(" rw-s ").count()
@@ -111,6 +164,10 @@ fn main() -> Result<(), Error> {
     count(None)?;
     count(Some(&folder))?;
     handles(&folder)?;
+    sides(&folder)?;
+    trims(&folder)?;
+    let first = order([3, 5])?;
+    assert!(first == order([3, 5])? && first != order([4, 5])? && first != order([3, 6])?);
     // (what goes is closed)
     assert_eq!(mapped(), before);
     Ok(())

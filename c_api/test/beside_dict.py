@@ -7,6 +7,7 @@ import os
 import pathlib
 import random
 import re
+import subprocess
 import sys
 import tempfile
 
@@ -158,6 +159,8 @@ def goes() -> None:
     except far.File as why:
         assert os.strerror(errno.ENOENT) in str(why)
     assert isinstance(far._lib, ctypes.PyDLL)
+    other = {**os.environ, "FOXGLOVEPEG": "/no/such/library.so"}
+    assert other["FOXGLOVEPEG"] in subprocess.run([sys.executable, "-c", "import foxglovepeg"], env=other, stderr=subprocess.PIPE, text=True, check=False).stderr
 
 
 def cut() -> None:

@@ -7,6 +7,7 @@
 #include <errno.h>
 #include <fcntl.h>
 #include <inttypes.h>
+#include <limits.h>
 #include <signal.h>
 #include <stdlib.h>
 #include <sys/mman.h>
@@ -75,10 +76,15 @@ static void play(struct far_worker *worker, uint64_t fits) {
     CHECK(far_statistics(worker, &all) == FAR_OK && all.near_objects + all.far_objects == count && all.device_faults > 0);
     CHECK(all.far_objects == fits);
     CHECK(far_trim(worker) == FAR_OK);
+    uint64_t refused = 0;
     for (uint64_t k = 0; k < count; k++) {
         fill(k, bytes);
         CHECK(far_read(worker, handles[k], 0, out, LEN) == FAR_OK && memcmp(bytes, out, LEN) == 0);
+        status = far_write(worker, handles[k], 9, bytes + 9, 1);
+        CHECK(status == FAR_OK || status == FAR_NO_ROOM);
+        refused += status != FAR_OK;
     }
+    CHECK((refused > 0) == (fits > 0));
     for (uint64_t k = 0; k < count; k += 2) CHECK(far_drop(worker, handles[k]) == FAR_OK);
     fill(9, bytes);
     CHECK(far_alloc(worker, bytes, LEN, 1, &handle) == FAR_OK);
@@ -89,11 +95,30 @@ static void play(struct far_worker *worker, uint64_t fits) {
     CHECK(far_close(worker) == FAR_OK && mapped() == 0);
 }
 
+/* A file that can't be mapped takes no place of those that there are. */
+static void unmappable(const char *folder) {
+    char path[PATH_MAX];
+    struct far_worker worker = FAR_WORKER_NONE;
+    snprintf(path, sizeof path, "%s/written", folder);
+    int fd = open(path, O_WRONLY | O_CREAT, 0600);
+    CHECK(fd >= 0 && unlink(path) == 0);
+    for (int k = 0; k <= WORKERS; k++) CHECK(far_open_file(&worker, NEAR, OBJECTS, 64, fd, 1 << 16) == FAR_FILE && errno == EACCES);
+    close(fd);
+}
+
+/* How many of the first descriptors are open. */
+static int descriptors(void) {
+    int count = 0;
+    for (int fd = 0; fd < 64; fd++) count += fcntl(fd, F_GETFD) != -1;
+    return count;
+}
+
 /* What the system refuses. */
 static void refuse(const char *folder) {
     struct far_worker worker = FAR_WORKER_NONE;
     struct far_map map = FAR_MAP_NONE;
-    int pipes[2], fd = open(folder, O_RDONLY | O_DIRECTORY);
+    struct far_map_plan few = PLAN;
+    int before = descriptors(), pipes[2], fd = open(folder, O_RDONLY | O_DIRECTORY);
     uint64_t all = 1 << 22;
     CHECK(pipe(pipes) == 0);
     CHECK(far_open_file(&worker, NEAR, OBJECTS, 64, -1, all) == FAR_FILE && errno == EBADF);
@@ -107,15 +132,21 @@ static void refuse(const char *folder) {
     CHECK(far_open_folder(&worker, 1, OBJECTS, 64, folder, all) == FAR_NEAR);
     CHECK(far_map_open_folder(&map, &PLAN, folder, all, 32767) == FAR_FAR);
     CHECK(far_map_open_folder(&map, &PLAN, folder, UINT64_MAX, UINT64_MAX) == FAR_FILE && errno == EFBIG);
+    CHECK(far_map_open_folder(&map, &PLAN, folder, (UINT64_C(1) << 63) + all, (UINT64_C(1) << 63) + all) == FAR_FILE && errno == EFBIG);
+    CHECK(far_least_near(OBJECTS, 4088, &few.long_near_bytes) == FAR_OK);
+    few.long_near_bytes--;
+    CHECK(far_map_open_folder(&map, &few, folder, all, 32767) == FAR_NEAR);
     CHECK(!worker.live && worker.at == NULL && !map.live && map.at == NULL && mapped() == 0);
     CHECK(far_open_folder(&worker, NEAR, OBJECTS, 64, folder, 32768) == FAR_OK && mapped() == 1);
     CHECK(far_open_folder(&worker, NEAR, OBJECTS, 64, folder, all) == FAR_OPEN && mapped() == 1);
     CHECK(far_close(&worker) == FAR_OK && far_trim(&worker) == FAR_CLOSED && mapped() == 0);
     CHECK(far_map_open_folder(&map, &PLAN, folder, all, all) == FAR_OK && far_map_trim(&map) == FAR_OK);
     CHECK(far_map_close(&map) == FAR_OK && mapped() == 0);
+    unmappable(folder);
     close(pipes[0]);
     close(pipes[1]);
     if (fd >= 0) close(fd);
+    CHECK(descriptors() == before);
 }
 
 /* Puts entries with values of so many bytes until one is refused; how many weren't. */
@@ -126,6 +157,20 @@ static uint32_t put(struct far_map *map, uint32_t key, uint32_t count, size_t le
     for (; k < count && status == FAR_OK; k++, key++) status = far_map_put(map, (const uint8_t *)&key, sizeof key, value, len);
     CHECK(status == FAR_OK || status == FAR_NO_ROOM);
     return status == FAR_OK ? k : k - 1;
+}
+
+/* A map whose far side is full: what is removed makes room for others, and no entry is lost. */
+static void relieve(void) {
+    struct far_map map = FAR_MAP_NONE;
+    uint8_t out[LEN];
+    size_t len;
+    CHECK(far_map_open_reserved(&map, &PLAN, 1 << 18, 0) == FAR_OK);
+    uint32_t count = put(&map, 0, OBJECTS, 1000), k;
+    CHECK(count > 240 && count < OBJECTS && put(&map, OBJECTS, 1, 1000) == 0);
+    for (k = 0; k < count; k += 2) CHECK(far_map_remove(&map, (const uint8_t *)&k, sizeof k) == FAR_OK);
+    CHECK(put(&map, OBJECTS, count / 2 - 1, 1000) == count / 2 - 1);
+    for (k = 1; k < count; k += 2) CHECK(far_map_get(&map, (const uint8_t *)&k, sizeof k, out, sizeof out, &len) == FAR_OK && len == sizeof out);
+    CHECK(far_map_close(&map) == FAR_OK);
 }
 
 /* Entries and long parts have each their own bytes, near and far. */
@@ -189,6 +234,11 @@ static void lengths(void) {
     CHECK(fstat(other, &told) == 0 && told.st_size == (1 << 20) + (1 << 19) && far_map_close(&map) == FAR_OK);
     close(fd);
     close(other);
+    /* (refused where there are no huge pages) */
+    fd = memfd_create("huge", MFD_HUGETLB);
+    if (far_open_file(&worker, NEAR, OBJECTS, 64, fd, (3 << 20) + 4096) == FAR_OK) CHECK(far_close(&worker) == FAR_OK);
+    CHECK(!worker.live && mapped() == 0);
+    if (fd >= 0) close(fd);
 }
 
 /* Each status has words of its own. */
@@ -264,9 +314,10 @@ static void crowd(const char *folder) {
     struct far_worker other = FAR_WORKER_NONE;
     for (int k = 0; k < WORKERS; k++) CHECK(far_open_folder(&workers[k], NEAR, 1, 64, folder, 1 << 16) == FAR_OK);
     CHECK(far_open_folder(&other, NEAR, 1, 64, folder, 1 << 16) == FAR_FILE && errno == EMFILE && mapped() == WORKERS);
-    for (int k = 0; k < WORKERS; k++) CHECK(far_close(&workers[k]) == FAR_OK);
-    CHECK(far_open_folder(&other, NEAR, 1, 64, folder, 1 << 16) == FAR_OK && mapped() == 1);
-    CHECK(far_close(&other) == FAR_OK && mapped() == 0);
+    /* (the first place is taken again while others are open, and these are closed as well) */
+    CHECK(far_close(&workers[0]) == FAR_OK && far_open_folder(&other, NEAR, 1, 64, folder, 1 << 16) == FAR_OK && mapped() == WORKERS);
+    for (int k = 1; k < WORKERS; k++) CHECK(far_close(&workers[k]) == FAR_OK);
+    CHECK(mapped() == 1 && far_close(&other) == FAR_OK && mapped() == 0);
 }
 
 static struct far_statistics statistics_of(struct far_worker *worker) {
@@ -326,6 +377,7 @@ int main(int count, char **words) {
     told();
     equal();
     sides();
+    relieve();
     parted(words[1]);
     if (count > 2) overfill(words[2], ENOSPC);
     signal(SIGXFSZ, SIG_IGN);

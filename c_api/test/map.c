@@ -180,6 +180,8 @@ static void plan(struct model *model, const char *place) {
     CHECK(open_map_in(place, &model->map, &other) == FAR_LENGTH);
     other = PLAN, other.long_parts = (UINT64_C(1) << 32) + 1;
     CHECK(open_map_in(place, &model->map, &other) == FAR_OBJECTS);
+    other.typical = 0;
+    CHECK(open_map_in(place, &model->map, &other) == FAR_LENGTH);
     other = PLAN;
     CHECK(far_least_near(other.long_parts, 4088, &least) == FAR_OK && least <= other.long_near_bytes);
     other.long_near_bytes = least - 1;

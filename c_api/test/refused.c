@@ -7,9 +7,12 @@
 #include <stdio.h>
 #include <stdlib.h>
 #include <string.h>
+#include <sys/mman.h>
+#include <unistd.h>
 
 static uint64_t asked, refused, live, largest;
-static int opened_wrong, interrupted;
+static int opened_wrong, interrupted, random_maps;
+static bool wide;
 static char folder[] = "/tmp/refused.XXXXXX";
 
 static void *at_most(size_t bytes, void *old) {
@@ -26,24 +29,41 @@ static void test_free(void *at) {
     free(at);
 }
 
-/* A folder that can't make a file without a name, each second time. */
+/* A folder that can't make a file without a name, each second time; old systems say so in three ways. */
 static int test_open(const char *path, int flags, int mode) {
+    static const int WHY[] = {EOPNOTSUPP, EISDIR, EINVAL};
     opened_wrong += mode != 0600 || (flags & O_CLOEXEC) == 0;
     if (refused % 2 == 0) return open(path, flags, mode);
-    errno = EOPNOTSUPP;
+    errno = WHY[refused / 2 % 3];
     return -1;
 }
 
-/* Room in a file is interrupted twice before it is taken. */
-static int test_fallocate(int fd, off_t from, off_t bytes) { return ++interrupted % 3 != 0 ? EINTR : posix_fallocate(fd, from, bytes); }
+/* Room in a file is interrupted twice before it is taken. Of much it is only said to be there. */
+static int test_fallocate(int fd, off_t from, off_t bytes) { return wide ? 0 : ++interrupted % 3 != 0 ? EINTR : posix_fallocate(fd, from, bytes); }
+
+/* A file that is closed leaves another errno. */
+static int test_close(int fd) {
+    int status = close(fd);
+    errno = EIO;
+    return status;
+}
+
+static int test_madvise(void *at, size_t bytes, int advice) {
+    random_maps += advice == MADV_RANDOM;
+    return madvise(at, bytes, advice);
+}
 
 #define open test_open
+#define close test_close
+#define madvise test_madvise
 #define posix_fallocate test_fallocate
 #define malloc test_malloc
 #define realloc test_realloc
 #define free test_free
 #include "../support.c"
 #undef open
+#undef close
+#undef madvise
 #undef posix_fallocate
 #undef malloc
 #undef realloc
@@ -88,7 +108,8 @@ static void play(bool in_file) {
     memset(bytes, 3, sizeof bytes);
     TWICE(far_exchange(&worker, handles[7], 0, bytes, sizeof bytes));
     CHECK(bytes[0] == 7 && bytes[199] == 7);
-    TWICE(far_add_heap(&worker));
+    int32_t status = far_add_heap(&worker);
+    CHECK(status == FAR_OK || (status == FAR_MEMORY && far_add_heap(&worker) == FAR_OK));
     CHECK(far_close(&worker) == FAR_OK && live == 0 && !regions[0].taken && opened_wrong == 0);
     CHECK(in_file || largest < 1 << 20); /* in memory far bytes are taken as objects leave */
 }
@@ -126,8 +147,18 @@ static void refuse_each(void (*play_once)(bool), bool in_file) {
     CHECK(refused > 20);
 }
 
+/* More than 2^31 bytes of a file, none of which is touched as it is opened: they are not there. Of what is mapped little is read ahead. After a refusal errno tells why. */
+static void open_wide(void) {
+    struct far_worker worker = FAR_WORKER_NONE;
+    refused = 0, wide = true;
+    CHECK(far_open_folder(&worker, NEAR, OBJECTS, 64, folder, 3ull << 30) == FAR_OK && far_close(&worker) == FAR_OK && random_maps == 1);
+    wide = false;
+    CHECK(far_open_folder(&worker, NEAR, OBJECTS, 64, folder, UINT64_MAX) == FAR_FILE && errno == EFBIG);
+}
+
 int main(void) {
     CHECK(mkdtemp(folder) != NULL);
+    open_wide();
     refuse_each(play, false);
     refuse_each(play, true);
     refuse_each(play_map, false);

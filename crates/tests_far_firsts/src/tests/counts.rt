@@ -199,6 +199,24 @@ fn a_lie_is_told_at_the_end(rt: HostRuntime) {
     assert!(rt; came == Ok((2, Name::Lost(0))) && output.out.is_empty());
 }
 
+// Over such a far side a line that comes again isn't counted, neither as the one that came nor as another.
+fn is_damaged(alloc: Global, len: usize) -> Result<bool, Refused> {
+    let double = Double::new(alloc, false, 100, 0);
+    let mut tally = Tally::new(alloc, double, SEED)?;
+    let Ok(text) = vec![in alloc; b'x'; len] else {
+        return Err(Refused::Memory);
+    };
+    let line = text.as_slice();
+    Ok(tally.add(line) == Ok(()) && tally.add(line) == Err(Refused::Damaged) && tally.len() == 1)
+}
+
+#[test]
+fn a_damaged_line_is_not_counted(rt: HostRuntime) {
+    for len in [1usize, 4_088, 4_089, 20_000] {
+        assert!(rt; is_damaged(rt.alloc(), len) == Ok(true), "{len}");
+    }
+}
+
 /// Which read of three bytes fails, and how many lines came then.
 type Failing = (u64, u64);
 

@@ -3,6 +3,7 @@
 use crate::tests::streams::{SEED, Slow, Watched};
 use far_double::Double;
 use far_firsts::{Ending, Why, count_lines, uniq};
+use far_index::{seeded, tag_of_key};
 use far_seen::{Seen, Tally};
 use far_word::Refused;
 use std::alloc::Global;
@@ -120,7 +121,11 @@ fn is_told(alloc: Global) -> Result<bool, Refused> {
     let mut seen = Seen::new(alloc, Double::new(alloc, true, 9, 0), SEED)?;
     let mut input = TEXT;
     let end = uniq(alloc, &mut seen, b'\n', 9, &mut input, &mut output);
-    Ok(output.calls == 1 && matches!(end.why, Why::Output(_)))
+    let kind = match &end.why {
+        Why::Output(e) => Some(e.kind()),
+        _ => None,
+    };
+    Ok(output.calls == 1 && kind == Some(ErrorKind::WriteZero))
 }
 
 #[test]
@@ -160,6 +165,27 @@ fn an_input_is_read_so_often(rt: HostRuntime) {
     for row in READS {
         assert!(rt; is_read_so(rt.alloc(), row) == Ok(true), "{}", row.0);
     }
+}
+
+// Two lines of one tag whose lengths differ are made, and neither is read: two calls of a set's worker, and of a tally's.
+fn are_not_read(alloc: Global) -> Result<bool, Refused> {
+    let (short, long): (&[u8], &[u8]) = (b"6764031", b"28007295");
+    let hasher = seeded(SEED);
+    let mut seen = Seen::new(alloc, Double::new(alloc, true, 9, 0), SEED)?;
+    let mut tally = Tally::new(alloc, Double::new(alloc, true, 9, 0), SEED)?;
+    let new = seen.first(short) == Ok(true) && seen.first(long) == Ok(true);
+    let counted = tally.add(short) == Ok(()) && tally.add(long) == Ok(());
+    Ok(
+        new && counted
+            && tag_of_key(&hasher, short) == tag_of_key(&hasher, long)
+            && seen.worker().calls() == 2
+            && tally.worker().calls() == 2,
+    )
+}
+
+#[test]
+fn no_line_of_another_length_is_read(rt: HostRuntime) {
+    assert!(rt; are_not_read(rt.alloc()) == Ok(true));
 }
 
 /// How many lines of nine bytes there are, each once, and how often counts of them are written.
